@@ -1,0 +1,4 @@
+pub mod Magnitude
+pub mod Order
+pub mod Bits
+pub mod Reads

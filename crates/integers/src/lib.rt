@@ -1,0 +1,1 @@
+// Laws of signed integers, in specs/: magnitudes, and values read back from their bits. No code.

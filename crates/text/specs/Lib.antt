@@ -1,0 +1,5 @@
+pub mod Ascii
+pub mod Bytes
+pub mod Tokens
+pub mod Logic
+pub mod Buffer
