@@ -1,0 +1,123 @@
+-- Laws of the calendar: the days of years in closed form, those of months by a table, and how many they are.
+use mathlib.Core.Path.{_≡_, refl, ap}
+use mathlib.Core.Bool.{Bool, true, false, cond, not, _&&_, _||_, false≢true}
+use mathlib.Core.List.{List, [], _∷_}
+use mathlib.Core.Logic.{⊎-elim}
+use Prim.Native.Nat.{ℕ, zero, suc, _+_, _-_, _*_, _/_, _%_, _≤_, _<_}
+use native.Mathlib.Nat.{div-le-self, div-add-mod, div-self, div-eq-of-lt, mod-self, mod-lt, mod-eq-of-lt, mul-add-div, mul-add-mod-self-left, eq-or-lt-of-le}
+use native.Mathlib.Omega.{arith}
+use borrow.Author.Tests.{eqb-true, eq-eqb, ne-eqb}
+use lib.Dec.{T, eqb, ltb}
+use lib.ListN.{getD}
+use mir.Val.{boolByte}
+use Rattle.text.specs.Logic.{by-test, and-left, and-right, below, below-at}
+use Rattle.time.specs.Calendar.{isLeap, yearDays, monthDays, daysOfYears, daysOfMonths}
+
+-- ---- years
+
+-- a quotient grows by one at each multiple of the divisor
+up-to : (d n : ℕ) → 0 < d → 0 < n → n ≤ d → n / d ≡ boolByte (eqb (n % d) 0)
+up-to d n h g k = ⊎-elim (λ (e : n ≡ d). rw (e, div-self h, mod-self d)) (λ (l : n < d). rw (div-eq-of-lt l, mod-eq-of-lt l, ne-eqb n 0 (λ e. omega arith))) (eq-or-lt-of-le k)
+
+quotient : (d k : ℕ) → 0 < d → suc k / d ≡ k / d + boolByte (eqb (suc k % d) 0)
+quotient d k h =
+    let s : suc k ≡ d * (k / d) + suc (k % d) = omega (arith, div-add-mod k d) in
+    rw (s, mul-add-div h (k / d) (suc (k % d)), mul-add-mod-self-left d (k / d) (suc (k % d)))
+    (ap (λ (n : ℕ). k / d + n) (up-to d (suc (k % d)) h (omega arith) (mod-lt k h)))
+
+-- the leap year's rule as a sum, where c goes with b and b with a
+leap-sum : (a b c : Bool) → (c ≡ true → b ≡ true) → (b ≡ true → a ≡ true) → cond (a && not b || c) 366 365 + boolByte b ≡ 365 + boolByte a + boolByte c
+leap-sum true true true h g = refl
+leap-sum true true false h g = refl
+leap-sum true false true h g = absurd (false≢true (h refl))
+leap-sum true false false h g = refl
+leap-sum false true c h g = absurd (false≢true (g refl))
+leap-sum false false true h g = absurd (false≢true (h refl))
+leap-sum false false false h g = refl
+
+century : (n : ℕ) → eqb (n % 400) 0 ≡ true → eqb (n % 100) 0 ≡ true
+century n e = let h : n % 400 ≡ 0 = eqb-true (n % 400) 0 e in eq-eqb (n % 100) 0 (omega arith)
+
+fourth : (n : ℕ) → eqb (n % 100) 0 ≡ true → eqb (n % 4) 0 ≡ true
+fourth n e = let h : n % 100 ≡ 0 = eqb-true (n % 100) 0 e in eq-eqb (n % 4) 0 (omega arith)
+
+sums : (d y k a b c u v w : ℕ) → d + b ≡ 365 * k + a + c → y + v ≡ 365 + u + w → d + y + (b + v) ≡ 365 * suc k + (a + u) + (c + w)
+sums d y k a b c u v w p q = omega arith
+
+years-sum : (k : ℕ) → daysOfYears k + k / 100 ≡ 365 * k + k / 4 + k / 400
+unfolding daysOfYears
+years-sum zero = refl
+years-sum (suc k) =
+    rw (quotient 4 k (omega arith), quotient 100 k (omega arith), quotient 400 k (omega arith))
+    (sums (daysOfYears k) (yearDays (suc k)) k (k / 4) (k / 100) (k / 400) _ _ _ (years-sum k)
+    (leap-sum (eqb (suc k % 4) 0) (eqb (suc k % 100) 0) (eqb (suc k % 400) 0) (century (suc k)) (fourth (suc k))))
+
+-- the days of the years 1 to k
+pub years-closed : (k : ℕ) → 365 * k + k / 4 - k / 100 + k / 400 ≡ daysOfYears k
+years-closed k = omega (arith, years-sum k, div-le-self k 100)
+
+pub years-le : (k : ℕ) → daysOfYears k ≤ 366 * k
+years-le k = omega (arith, years-sum k)
+
+-- ---- months
+
+module _ (y m : ℕ) where
+  pub month-leap : m ≡ 2 → isLeap y ≡ true → 29 ≡ monthDays y m
+  month-leap e f = rw (e, f)
+
+  pub month-common : m ≡ 2 → isLeap y ≡ false → 28 ≡ monthDays y m
+  month-common e f = rw (e, f)
+
+  pub month-short : (m ≡ 2 → ⊥) → (eqb m 4 || eqb m 6 || eqb m 9 || eqb m 11) ≡ true → 30 ≡ monthDays y m
+  month-short n f = rw (ne-eqb m 2 n, f)
+
+  pub month-long : (m ≡ 2 → ⊥) → (eqb m 4 || eqb m 6 || eqb m 9 || eqb m 11) ≡ false → 31 ≡ monthDays y m
+  month-long n f = rw (ne-eqb m 2 n, f)
+
+cond-le : {k a b : ℕ} (t : Bool) → a ≤ k → b ≤ k → cond t a b ≤ k
+cond-le true h g = h
+cond-le false h g = g
+
+pub month-le : (y m : ℕ) → monthDays y m ≤ 31
+month-le y m =
+    cond-le (eqb m 2)
+    (cond-le (isLeap y) (omega arith) (omega arith))
+    (cond-le (eqb m 4 || eqb m 6 || eqb m 9 || eqb m 11) (omega arith) (omega arith))
+
+pub months-le : (y n : ℕ) → daysOfMonths y n ≤ 31 * n
+unfolding daysOfMonths
+months-le y zero = omega arith
+months-le y (suc n) = omega (arith, months-le y n, month-le y (suc n))
+
+-- two leap years have the same months, and so have two common years
+same-kind : (y z n : ℕ) → isLeap y ≡ isLeap z → daysOfMonths y n ≡ daysOfMonths z n
+unfolding daysOfMonths
+same-kind y z zero e = refl
+same-kind y z (suc n) e = rw (e, same-kind y z n e)
+
+-- the days of a common year before each month, by the month's number
+abbrev pub before : List ℕ
+before = 0 ∷ 0 ∷ 31 ∷ 59 ∷ 90 ∷ 120 ∷ 151 ∷ 181 ∷ 212 ∷ 243 ∷ 273 ∷ 304 ∷ 334 ∷ []
+
+right : ℕ → ℕ → Bool
+right y m = eqb (getD before m 0 + boolByte (ltb 2 m && isLeap y)) (daysOfMonths y (m - 1))
+
+-- the years 4, a leap year, and 1, a common year, stand for all
+both-right : ℕ → Bool
+both-right m = right 4 m && right 1 m
+
+all-right : T (below 13 both-right)
+unfolding right both-right daysOfMonths
+all-right = tt
+
+like : (y z m : ℕ) → isLeap y ≡ isLeap z → right z m ≡ true → getD before m 0 + boolByte (ltb 2 m && isLeap y) ≡ daysOfMonths y (m - 1)
+unfolding right
+like y z m e t = rw (e, same-kind y z (m - 1) e) (eqb-true _ _ t)
+
+-- the table, with the leap day from March on
+pub months-table : (y m : ℕ) (b : Bool) → m < 13 → b ≡ isLeap y → getD before m 0 + boolByte (ltb 2 m && b) ≡ daysOfMonths y (m - 1)
+unfolding both-right
+months-table y m b h e =
+    let t = below-at 13 both-right all-right m h in
+    rw e
+    (by-test (isLeap y) (λ p. like y 4 m p (and-left (right 4 m) (right 1 m) t)) (λ p. like y 1 m p (and-right (right 4 m) (right 1 m) t)))

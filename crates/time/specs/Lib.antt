@@ -1,0 +1,4 @@
+pub mod Calendar
+pub mod Digits
+pub mod Time
+pub mod Samples
