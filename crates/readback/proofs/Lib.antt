@@ -1,0 +1,9 @@
+pub mod Copying
+pub mod Table
+pub mod Room
+pub mod Units
+pub mod Hash
+pub mod Letters
+pub mod Same
+pub mod Groups
+pub mod Turns

@@ -1,0 +1,163 @@
+-- Four counts, each behind the one before.
+use mathlib.Core.List.{List, _++_}
+use Prim.Native.Nat.{ℕ, _≤_, _/_, _%_}
+use native.Mathlib.Nat.{lt-of-le-of-lt}
+use native.Mathlib.Omega.{arith}
+use lib.ListN.{length}
+use borrow.Author.Needs.{needs}
+use Rattle.text.proofs.Buffer.{put-in, put-same, put-room, put-then, put-sum}
+use Rattle.words.specs.Words.{spaced}
+use Rattle.words.specs.Duration.{day, days, hour, hours, minute, minutes, second, seconds, counted}
+use Rattle.words.proofs.Cases.{lasting-parts}
+use Rattle.readback.proofs.Room.{room-left}
+use Rattle.readback.proofs.duration.put_duration.Statement.{statement}
+use Rattle.readback.proofs.duration.put_duration.Tie as tie
+
+abbrev s₁ : tie.After-slice-known → List ℕ
+s₁ e = let a = e .before in spaced (counted (a .args .s / 86_400) day days)
+
+abbrev s₂ : tie.After-slice-known → List ℕ
+s₂ e = let a = e .before in spaced (counted (a .args .s / 3_600 % 24) hour hours)
+
+abbrev s₃ : tie.After-slice-known → List ℕ
+s₃ e = let a = e .before in spaced (counted (a .args .s / 60 % 60) minute minutes)
+
+abbrev s₄ : tie.After-slice-known → List ℕ
+s₄ e = let a = e .before in spaced (counted (a .args .s % 60) second seconds)
+
+room₄ : (e : tie.After-slice-known) → length (((s₁ e ++ s₂ e) ++ s₃ e) ++ s₄ e) ≤ length (e .before .args .dst .now)
+room₄ e = let a = e .before in rw (lasting-parts (a .args .s)) at (a .pre)
+
+room₃ : (e : tie.After-slice-known) → length ((s₁ e ++ s₂ e) ++ s₃ e) ≤ length (e .before .args .dst .now)
+room₃ e = room-left ((s₁ e ++ s₂ e) ++ s₃ e) (s₄ e) (room₄ e)
+
+room₂ : (e : tie.After-slice-known) → length (s₁ e ++ s₂ e) ≤ length (e .before .args .dst .now)
+room₂ e = room-left (s₁ e ++ s₂ e) (s₃ e) (room₃ e)
+
+room₁ : (e : tie.After-slice-known) → length (s₁ e) ≤ length (e .before .args .dst .now)
+room₁ e = room-left (s₁ e) (s₂ e) (room₂ e)
+
+put-counted-requires : tie.Need-put-counted-requires
+put-counted-requires c κs = (omega arith, omega arith, room₁ (c .before))
+
+sub-put-counted : tie.Need-sub-put-counted
+sub-put-counted c =
+    let e = c .before .before .before .before in
+    let p₁ = c .before .before .put-counted .ensures in
+    put-in _ _ p₁ (room₁ e)
+
+part-put-counted-start : tie.Need-part-put-counted-start
+part-put-counted-start c = sub-put-counted c
+
+part-put-counted-end : tie.Need-part-put-counted-end
+part-put-counted-end c = search needs
+
+put-counted-requires-2 : tie.Need-put-counted-requires-2
+put-counted-requires-2 c κs =
+    let e = c .before .before .before .before .before in
+    let p₁ = c .before .before .before .put-counted .ensures in
+    (omega arith, omega arith, put-room _ _ p₁ _ (room₂ e))
+
+add-b : tie.Need-add-b
+add-b c =
+    let e = c .before .before .before .before .before .before .before .before in
+    let p₁ = c .before .before .before .before .before .before .put-counted .ensures in
+    record { fits = lt-of-le-of-lt (put-sum _ _ p₁ _ (room₂ e) (c .before .before .put-counted2 .ensures)) (e .before .good .0 .0) }
+
+sub-put-counted-2 : tie.Need-sub-put-counted-2
+sub-put-counted-2 c =
+    let e = c .before .before .before .before .before .before .before .before in
+    let p₁ = c .before .before .before .before .before .before .put-counted .ensures in
+    let p₂ = put-then _ _ p₁ _ (room₂ e) (c .before .before .put-counted2 .ensures) in
+    put-in _ _ p₂ (room₂ e)
+
+part-put-counted-start-2 : tie.Need-part-put-counted-start-2
+part-put-counted-start-2 c = sub-put-counted-2 c
+
+part-put-counted-end-2 : tie.Need-part-put-counted-end-2
+part-put-counted-end-2 c = search needs
+
+put-counted-requires-3 : tie.Need-put-counted-requires-3
+put-counted-requires-3 c κs =
+    let e = c .before .before .before .before .before .before .before .before .before in
+    let p₁ = c .before .before .before .before .before .before .before .put-counted .ensures in
+    let p₂ = put-then _ _ p₁ _ (room₂ e) (c .before .before .before .put-counted2 .ensures) in
+    (omega arith, omega arith, put-room _ _ p₂ _ (room₃ e))
+
+add-c : tie.Need-add-c
+add-c c =
+    let e = c .before .before .before .before .before .before .before .before .before .before .before .before in
+    let p₁ = c .before .before .before .before .before .before .before .before .before .before .put-counted .ensures in
+    let p₂ = put-then _ _ p₁ _ (room₂ e) (c .before .before .before .before .before .before .put-counted2 .ensures) in
+    record { fits = lt-of-le-of-lt (put-sum _ _ p₂ _ (room₃ e) (c .before .before .put-counted3 .ensures)) (e .before .good .0 .0) }
+
+sub-put-counted-3 : tie.Need-sub-put-counted-3
+sub-put-counted-3 c =
+    let e = c .before .before .before .before .before .before .before .before .before .before .before .before in
+    let p₁ = c .before .before .before .before .before .before .before .before .before .before .put-counted .ensures in
+    let p₂ = put-then _ _ p₁ _ (room₂ e) (c .before .before .before .before .before .before .put-counted2 .ensures) in
+    let p₃ = put-then _ _ p₂ _ (room₃ e) (c .before .before .put-counted3 .ensures) in
+    put-in _ _ p₃ (room₃ e)
+
+part-put-counted-start-3 : tie.Need-part-put-counted-start-3
+part-put-counted-start-3 c = sub-put-counted-3 c
+
+part-put-counted-end-3 : tie.Need-part-put-counted-end-3
+part-put-counted-end-3 c = search needs
+
+put-counted-requires-4 : tie.Need-put-counted-requires-4
+put-counted-requires-4 c κs =
+    let e = c .before .before .before .before .before .before .before .before .before .before .before .before .before in
+    let p₁ = c .before .before .before .before .before .before .before .before .before .before .before .put-counted .ensures in
+    let p₂ = put-then _ _ p₁ _ (room₂ e) (c .before .before .before .before .before .before .before .put-counted2 .ensures) in
+    let p₃ = put-then _ _ p₂ _ (room₃ e) (c .before .before .before .put-counted3 .ensures) in
+    (omega arith, omega arith, put-room _ _ p₃ _ (room₄ e))
+
+add-result : tie.Need-add-result
+add-result c =
+    let e = c .before .before .before .before .before .before .before .before .before .before .before .before .before .before .before .before in
+    let p₁ = c .before .before .before .before .before .before .before .before .before .before .before .before .before .before .put-counted .ensures in
+    let p₂ = put-then _ _ p₁ _ (room₂ e) (c .before .before .before .before .before .before .before .before .before .before .put-counted2 .ensures) in
+    let p₃ = put-then _ _ p₂ _ (room₃ e) (c .before .before .before .before .before .before .put-counted3 .ensures) in
+    record { fits = lt-of-le-of-lt (put-sum _ _ p₃ _ (room₄ e) (c .before .before .put-counted4 .ensures)) (e .before .good .0 .0) }
+
+same-length : tie.Need-same-length
+same-length c =
+    let e = c .before .before .before .before .before .before .before .before .before .before .before .before .before .before .before .before in
+    let p₁ = c .before .before .before .before .before .before .before .before .before .before .before .before .before .before .put-counted .ensures in
+    let p₂ = put-then _ _ p₁ _ (room₂ e) (c .before .before .before .before .before .before .before .before .before .before .put-counted2 .ensures) in
+    let p₃ = put-then _ _ p₂ _ (room₃ e) (c .before .before .before .before .before .before .put-counted3 .ensures) in
+    let p₄ = put-then _ _ p₃ _ (room₄ e) (c .before .before .put-counted4 .ensures) in
+    put-same _ _ p₄ (room₄ e)
+
+returns : tie.Need-returns
+returns c =
+    let e = c .before .before .before .before .before .before .before .before .before .before .before .before .before .before .before .before in
+    let p₁ = c .before .before .before .before .before .before .before .before .before .before .before .before .before .before .put-counted .ensures in
+    let p₂ = put-then _ _ p₁ _ (room₂ e) (c .before .before .before .before .before .before .before .before .before .before .put-counted2 .ensures) in
+    let p₃ = put-then _ _ p₂ _ (room₃ e) (c .before .before .before .before .before .before .put-counted3 .ensures) in
+    let p₄ = put-then _ _ p₃ _ (room₄ e) (c .before .before .put-counted4 .ensures) in
+    let a = e .before in rw (lasting-parts (a .args .s)) p₄
+
+pub put-duration-spec : {M : Type 1} → statement M
+put-duration-spec =
+    tie.close
+    (tie.spec
+    put-counted-requires
+    sub-put-counted
+    part-put-counted-start
+    part-put-counted-end
+    put-counted-requires-2
+    add-b
+    sub-put-counted-2
+    part-put-counted-start-2
+    part-put-counted-end-2
+    put-counted-requires-3
+    add-c
+    sub-put-counted-3
+    part-put-counted-start-3
+    part-put-counted-end-3
+    put-counted-requires-4
+    add-result
+    same-length
+    returns)

@@ -1,0 +1,17 @@
+// Bytes over the front of a lent part: what every writer of this crate is made of.
+ghost use Prim.Native.Nat.{_≤_};
+ghost use lib.ListN.{length};
+ghost use Rattle.text.specs.Buffer.{Put};
+
+// Writes src over the front of dst, and gives its length.
+pub fn put(dst: &mut [u8], src: &[u8]) -> usize
+    requires { ⌜ length (now src) ≤ length (now dst) ⌝ }
+    ensures { λ r. ⌜ Put (now (dst .entry)) (now (src .entry)) (now (dst .exit)) r ⌝ }
+{
+    let mut i = 0;
+    while i < src.len() {
+        dst[i] = src[i];
+        i += 1;
+    }
+    i
+}

@@ -1,0 +1,279 @@
+-- Laws of reading: the code of a word, one turn of each loop, and the bounds of what is read.
+use mathlib.Core.Path.{_≡_, refl, sym, ap, ap₂, _∙_}
+use mathlib.Core.Bool.{Bool, true, false, true≢false}
+use mathlib.Core.List.{List, [], _∷_}
+use Prim.Native.Nat.{ℕ, zero, suc, _+_, _*_, _≤_, _<_}
+use native.Mathlib.Omega.{arith}
+use lib.Dec.{eqb, ltb}
+use lib.ListN.{length, getD, drop, length-take, length-drop}
+use borrow.Author.Tests.{ltb-true, ltb-false, eqb-true, le-ltb}
+use Rattle.text.specs.Logic.{by-test, below-at, eql, eql-true}
+use Rattle.words.specs.declared.Groups.{Groups}
+use Rattle.words.specs.declared.Heard.{Heard}
+use Rattle.words.specs.Words.{dictionary, word}
+use Rattle.words.specs.Reading.{wordAt, placeIn, codeOf, kept, isNumberWord, step, nothing, total, numberWords, numberAt, unitSeconds, countOf, unitWord, countLength, counts, durationAt}
+
+-- ---- the code of a word
+
+place-from : (ds : List (List ℕ)) (i : ℕ) (w : List ℕ) → i ≤ placeIn ds i w
+unfolding placeIn
+place-from [] i w = omega arith
+place-from (d ∷ ds) i w =
+    by-test (eql w d) (λ e. rw e (omega arith)) (λ e. rw e (omega (arith, place-from ds (suc i) w)))
+
+place-le : (ds : List (List ℕ)) (i : ℕ) (w : List ℕ) → placeIn ds i w ≤ i + length ds
+unfolding placeIn
+place-le [] i w = omega arith
+place-le (d ∷ ds) i w =
+    by-test (eql w d) (λ e. rw e (omega arith)) (λ e. rw e (omega (arith, place-le ds (suc i) w)))
+
+-- the word at the place that was found
+place-word : (ds : List (List ℕ)) (i k : ℕ) (w : List ℕ) → k < length ds → placeIn ds i w ≡ i + k → w ≡ getD ds k []
+unfolding placeIn
+place-word [] i k w h e = absurd (omega arith)
+place-word (d ∷ ds) i zero w h e =
+    by-test (eql w d) (eql-true w d) (λ t. absurd (omega (arith, place-from ds (suc i) w, rw t at e)))
+place-word (d ∷ ds) i (suc k) w h e =
+    by-test (eql w d)
+    (λ t. absurd (omega (arith, rw t at e)))
+    (λ t. place-word ds (suc i) k w (omega arith) (omega (arith, rw t at e)))
+
+pub code-le : (w : List ℕ) → codeOf w ≤ 40
+unfolding codeOf dictionary
+code-le w = place-le dictionary 0 w
+
+pub known-word : (w : List ℕ) → codeOf w < 40 → w ≡ word (codeOf w)
+unfolding codeOf word dictionary
+known-word w h = place-word dictionary 0 (placeIn dictionary 0 w) w h (omega arith)
+
+own-code : ℕ → Bool
+unfolding codeOf placeIn word dictionary
+own-code k = eqb (codeOf (word k)) k
+
+pub code-of-word : (k : ℕ) → k < 40 → codeOf (word k) ≡ k
+unfolding own-code
+code-of-word k h = eqb-true (codeOf (word k)) k (below-at 40 own-code tt k h)
+
+-- a word of the dictionary has a letter
+pub word-letter : (w : List ℕ) → codeOf w < 40 → 0 < length w
+unfolding codeOf placeIn dictionary
+word-letter [] h = absurd (omega arith)
+word-letter (b ∷ w) h = omega arith
+
+number-letter : (w : List ℕ) → isNumberWord (codeOf w) ≡ true → 0 < length w
+number-letter w e = word-letter w (omega (arith, ltb-true (codeOf w) 32 e))
+
+-- only the words of units have seconds
+pub unit-range : (u : ℕ) → eqb (unitSeconds u) 0 ≡ false → (32 ≤ u) × (u < 40)
+unit-range u e = (
+  by-test (ltb u 32) (λ t. absurd (true≢false (rw t at e))) (ltb-false u 32),
+  by-test (ltb u 40) (ltb-true u 40) (λ t. absurd (none (ltb-false u 40 t))),
+)
+  where
+    none : 40 ≤ u → ⊥
+    none h =
+        true≢false
+        (rw (le-ltb u 32 (omega arith), le-ltb u 34 (omega arith), le-ltb u 36 (omega arith), le-ltb u 38 (omega arith), le-ltb u 40 h) at e)
+
+unit-letter : (w : List ℕ) → eqb (unitSeconds (codeOf w)) 0 ≡ false → 0 < length w
+unit-letter w e = word-letter w (unit-range (codeOf w) e .1)
+
+-- a word and its space lie within the text
+pub word-within : (l : List ℕ) → 0 < length (wordAt l) → 1 + length (wordAt l) ≤ length l
+unfolding wordAt
+word-within [] h = absurd (omega arith)
+word-within (b ∷ l) h =
+    by-test (eqb b 32)
+    (λ e. rw e (simp length-take (omega arith)))
+    (λ e. absurd (omega (arith, rw e at h)))
+
+pub number-word-within : (l : List ℕ) → isNumberWord (codeOf (wordAt l)) ≡ true → 1 + length (wordAt l) ≤ length l
+number-word-within l e = word-within l (number-letter (wordAt l) e)
+
+-- ---- one turn of the number loop
+
+-- a value and the place behind it
+abbrev pub heard : ℕ → ℕ → Heard
+heard v e = record { value = v; end = e }
+
+-- a turn takes at least a space and a letter, so more turns than the text has bytes add nothing
+pub enough : (n m i : ℕ) (l : List ℕ) (g : Groups) → length l ≤ n → length l ≤ m → numberWords n i l g ≡ numberWords m i l g
+unfolding numberWords
+enough zero zero i l g p q = refl
+enough zero (suc m) i l g p q =
+    by-test (isNumberWord (codeOf (wordAt l)))
+    (λ e. absurd (omega (arith, number-word-within l e)))
+    (λ e. rw e)
+enough (suc n) zero i l g p q =
+    by-test (isNumberWord (codeOf (wordAt l)))
+    (λ e. absurd (omega (arith, number-word-within l e)))
+    (λ e. rw e)
+enough (suc n) (suc m) i l g p q =
+    let k = 1 + length (wordAt l) in
+    by-test (isNumberWord (codeOf (wordAt l)))
+    (λ e.
+    rw e
+    (enough n m (i + k) (drop k l) (step (codeOf (wordAt l)) g) (simp length-drop (omega arith)) (simp length-drop (omega arith))))
+    (λ e. rw e)
+
+module _ (i : ℕ) (l : List ℕ) (g : Groups) where
+  pub number-on :
+      isNumberWord (codeOf (wordAt l)) ≡ true
+      → numberWords (length l) i l g
+      ≡ numberWords (length (drop (1 + length (wordAt l)) l)) (i + (1 + length (wordAt l))) (drop (1 + length (wordAt l)) l) (step (codeOf (wordAt l)) g)
+  unfolding numberWords
+  number-on e =
+      let k = 1 + length (wordAt l) in
+      enough (length l) (suc (length l)) i l g (omega arith) (omega arith)
+      ∙ rw e (enough (length l) (length (drop k l)) (i + k) (drop k l) (step (codeOf (wordAt l)) g) (simp length-drop (omega arith)) (omega arith))
+
+  pub number-stop : isNumberWord (codeOf (wordAt l)) ≡ false → numberWords (length l) i l g ≡ record { value = total g; end = i }
+  unfolding numberWords
+  number-stop e = enough (length l) (suc (length l)) i l g (omega arith) (omega arith) ∙ rw e
+
+-- what is read ends within the text
+pub number-within : (n i : ℕ) (l : List ℕ) (g : Groups) → (i ≤ numberWords n i l g .end) × (numberWords n i l g .end ≤ i + length l)
+unfolding numberWords
+number-within zero i l g = omega arith
+number-within (suc n) i l g =
+    let k = 1 + length (wordAt l) in
+    by-test (isNumberWord (codeOf (wordAt l)))
+    (λ e.
+    let h = number-word-within l e in
+    let ih = simp length-drop at (number-within n (i + k) (drop k l) (step (codeOf (wordAt l)) g)) in
+    rw e (omega arith))
+    (λ e. rw e (omega arith))
+
+-- a reader whose end moves with the place of the text, k bytes further on
+moved :
+    (k : ℕ) (read : ℕ → Heard)
+    → ((j : ℕ) → read j ≡ record { value = read 0 .value; end = j + read 0 .end })
+    → (i : ℕ) → read (i + k) ≡ record { value = read (0 + k) .value; end = i + read (0 + k) .end }
+moved k read h i =
+    let z = h (0 + k) in
+    h (i + k) ∙ ap₂ heard (sym (ap (λ (x : Heard). x .value) z)) (omega (arith, ap (λ (x : Heard). x .end) z))
+
+-- the place of the text only moves the end
+pub number-shift : (n i : ℕ) (l : List ℕ) (g : Groups) → numberWords n i l g ≡ record { value = numberWords n 0 l g .value; end = i + numberWords n 0 l g .end }
+unfolding numberWords
+number-shift zero i l g = ap (heard (total g)) (omega arith)
+number-shift (suc n) i l g =
+    let k = 1 + length (wordAt l) in
+    let r = drop k l in
+    let s = step (codeOf (wordAt l)) g in
+    by-test (isNumberWord (codeOf (wordAt l)))
+    (λ e. rw e (moved k (λ (j : ℕ). numberWords n j r s) (λ (j : ℕ). number-shift n j r s) i))
+    (λ e. rw e (ap (heard (total g)) (omega arith)))
+
+pub number-value : (n i : ℕ) (l : List ℕ) (g : Groups) → numberWords n i l g .value < 4_294_967_296
+unfolding numberWords
+number-value zero i l g = omega arith
+number-value (suc n) i l g =
+    let k = 1 + length (wordAt l) in
+    by-test (isNumberWord (codeOf (wordAt l)))
+    (λ e. rw e (number-value n (i + k) (drop k l) (step (codeOf (wordAt l)) g)))
+    (λ e. rw e (omega arith))
+
+-- ---- one turn of the duration loop
+
+-- a count and its unit lie within the text
+pub count-within : (l : List ℕ) → eqb (unitSeconds (codeOf (unitWord l))) 0 ≡ false → countLength l ≤ length l
+unfolding numberAt
+count-within l e =
+    let h = simp length-drop at (word-within (drop (numberAt 0 l .end) l) (unit-letter (unitWord l) e)) in
+    omega (arith, number-within (length l) 0 l nothing)
+
+pub counts-enough : (n m i : ℕ) (l : List ℕ) (s : ℕ) → length l ≤ n → length l ≤ m → counts n i l s ≡ counts m i l s
+unfolding counts
+counts-enough zero zero i l s p q = refl
+counts-enough zero (suc m) i l s p q =
+    by-test (eqb (unitSeconds (codeOf (unitWord l))) 0) (λ e. rw e) (λ e. absurd (omega (arith, count-within l e)))
+counts-enough (suc n) zero i l s p q =
+    by-test (eqb (unitSeconds (codeOf (unitWord l))) 0) (λ e. rw e) (λ e. absurd (omega (arith, count-within l e)))
+counts-enough (suc n) (suc m) i l s p q =
+    let k = countLength l in
+    by-test (eqb (unitSeconds (codeOf (unitWord l))) 0)
+    (λ e. rw e)
+    (λ e.
+    rw e
+    (counts-enough n m (i + k) (drop k l) (kept (s + countOf l * unitSeconds (codeOf (unitWord l))))
+    (simp length-drop (omega arith))
+    (simp length-drop (omega arith))))
+
+module _ (i : ℕ) (l : List ℕ) (s : ℕ) where
+  pub counts-on :
+      eqb (unitSeconds (codeOf (unitWord l))) 0 ≡ false
+      → counts (length l) i l s
+      ≡ counts (length (drop (countLength l) l)) (i + countLength l) (drop (countLength l) l) (kept (s + countOf l * unitSeconds (codeOf (unitWord l))))
+  unfolding counts
+  counts-on e =
+      let k = countLength l in
+      counts-enough (length l) (suc (length l)) i l s (omega arith) (omega arith)
+      ∙ rw e
+      (counts-enough (length l) (length (drop k l)) (i + k) (drop k l) (kept (s + countOf l * unitSeconds (codeOf (unitWord l))))
+      (simp length-drop (omega arith))
+      (omega arith))
+
+  pub counts-stop : eqb (unitSeconds (codeOf (unitWord l))) 0 ≡ true → counts (length l) i l s ≡ record { value = s; end = i }
+  unfolding counts
+  counts-stop e = counts-enough (length l) (suc (length l)) i l s (omega arith) (omega arith) ∙ rw e
+
+pub counts-within : (n i : ℕ) (l : List ℕ) (s : ℕ) → (i ≤ counts n i l s .end) × (counts n i l s .end ≤ i + length l)
+unfolding counts
+counts-within zero i l s = omega arith
+counts-within (suc n) i l s =
+    let k = countLength l in
+    by-test (eqb (unitSeconds (codeOf (unitWord l))) 0)
+    (λ e. rw e (omega arith))
+    (λ e.
+    let h = count-within l e in
+    let ih = simp length-drop at (counts-within n (i + k) (drop k l) (kept (s + countOf l * unitSeconds (codeOf (unitWord l))))) in
+    rw e (omega arith))
+
+pub counts-shift : (n i : ℕ) (l : List ℕ) (s : ℕ) → counts n i l s ≡ record { value = counts n 0 l s .value; end = i + counts n 0 l s .end }
+unfolding counts
+counts-shift zero i l s = ap (heard s) (omega arith)
+counts-shift (suc n) i l s =
+    let k = countLength l in
+    let r = drop k l in
+    let t = kept (s + countOf l * unitSeconds (codeOf (unitWord l))) in
+    by-test (eqb (unitSeconds (codeOf (unitWord l))) 0)
+    (λ e. rw e (ap (heard s) (omega arith)))
+    (λ e. rw e (moved k (λ (j : ℕ). counts n j r t) (λ (j : ℕ). counts-shift n j r t) i))
+
+pub counts-value : (n i : ℕ) (l : List ℕ) (s : ℕ) → s < 4_294_967_296 → counts n i l s .value < 4_294_967_296
+unfolding counts
+counts-value zero i l s h = h
+counts-value (suc n) i l s h =
+    let k = countLength l in
+    let t = kept (s + countOf l * unitSeconds (codeOf (unitWord l))) in
+    by-test (eqb (unitSeconds (codeOf (unitWord l))) 0)
+    (λ e. rw e h)
+    (λ e. rw e (counts-value n (i + k) (drop k l) t (omega arith)))
+
+-- ---- a number and a duration that lead a text
+
+module _ (i : ℕ) (l : List ℕ) where
+  pub number-at-within : (i ≤ numberAt i l .end) × (numberAt i l .end ≤ i + length l)
+  unfolding numberAt
+  number-at-within = number-within (length l) i l nothing
+
+  pub number-at-shift : numberAt i l ≡ record { value = numberAt 0 l .value; end = i + numberAt 0 l .end }
+  unfolding numberAt
+  number-at-shift = number-shift (length l) i l nothing
+
+  pub number-at-value : numberAt i l .value < 4_294_967_296
+  unfolding numberAt
+  number-at-value = number-value (length l) i l nothing
+
+  pub duration-at-within : (i ≤ durationAt i l .end) × (durationAt i l .end ≤ i + length l)
+  unfolding durationAt
+  duration-at-within = counts-within (length l) i l 0
+
+  pub duration-at-shift : durationAt i l ≡ record { value = durationAt 0 l .value; end = i + durationAt 0 l .end }
+  unfolding durationAt
+  duration-at-shift = counts-shift (length l) i l 0
+
+  pub duration-at-value : durationAt i l .value < 4_294_967_296
+  unfolding durationAt
+  duration-at-value = counts-value (length l) i l 0 (omega arith)

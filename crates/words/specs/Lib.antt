@@ -1,0 +1,4 @@
+pub mod Words
+pub mod Duration
+pub mod Reading
+pub mod Samples

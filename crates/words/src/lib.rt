@@ -1,0 +1,14 @@
+// Numbers and durations in English words: the types that reading them answers. The definitions are in specs/, the laws in
+// proofs/; the functions that write and read words are in the crate that writes sentences.
+
+// A number as far as its words were read: the sum of the thousands groups that are complete, and the current group.
+pub struct Groups {
+    pub sum: u64,
+    pub current: u64,
+}
+
+// A number that was read, and the place behind its last word.
+pub struct Heard {
+    pub value: u32,
+    pub end: usize,
+}
