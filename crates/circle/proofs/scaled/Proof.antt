@@ -1,0 +1,14 @@
+-- `circle::scaled` meets its contract: the product of the two bounded factors fits.
+use Rattle.circle.proofs.Near.{product-fits}
+use borrow.Author.Needs.{needs}
+use Rattle.circle.proofs.scaled.Statement.{statement}
+use Rattle.circle.proofs.scaled.Tie as tie
+
+mul-result : tie.Need-mul-result
+mul-result c = product-fits _ _ (c .pre .0) (c .pre .1)
+
+returns : tie.Need-returns
+returns c = search needs
+
+pub scaled-spec : {M : Type 1} → statement M
+scaled-spec = tie.close (tie.spec mul-result returns)

@@ -1,0 +1,3 @@
+pub mod Cosine
+pub mod Circle
+pub mod Samples

@@ -1,0 +1,25 @@
+-- `in_range` meets its contract: both tests read their coordinate from its bits, which hold it exactly.
+use mathlib.Core.Path.{ap₂}
+use mathlib.Core.Bool.{_&&_}
+use borrow.Author.Needs.{needs}
+use Rattle.coordinates.specs.Place.{latitudeLimit, longitudeLimit}
+use Rattle.coordinates.proofs.Differences.{within-is}
+use Rattle.coordinates.proofs.in_range.Statement.{statement}
+use Rattle.coordinates.proofs.in_range.Tie as tie
+
+is-latitude-requires : tie.Need-is-latitude-requires
+is-latitude-requires c κs = search needs
+
+is-longitude-requires : tie.Need-is-longitude-requires
+is-longitude-requires c κs = search needs
+
+returns : tie.Need-returns
+returns c =
+    let p = c .before .before .before .before .args .p in
+    let told = c .before .before .before .struct-told .given in
+    ap₂ _&&_
+    (within-is latitudeLimit (p .lat) _ (told .0 .1) (c .before .before .is-latitude .ensures))
+    (within-is longitudeLimit (p .lon) _ (told .1 .0 .1) (c .is-longitude .ensures))
+
+pub in-range-spec : {M : Type 1} → statement M
+in-range-spec = tie.close (tie.spec is-latitude-requires is-longitude-requires returns)

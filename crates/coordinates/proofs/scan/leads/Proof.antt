@@ -1,0 +1,18 @@
+-- `leads` meets its contract: within the text the byte at the place leads the rest, and past its end nothing does.
+use mathlib.Core.Path.{sym}
+use borrow.Author.Needs.{needs}
+use Rattle.coordinates.proofs.Leading.{leads-at, leads-none}
+use Rattle.coordinates.proofs.scan.leads.Statement.{statement}
+use Rattle.coordinates.proofs.scan.leads.Tie as tie
+
+shared-slice-read-result : tie.Need-shared-slice-read-result
+shared-slice-read-result c = search needs
+
+returns : tie.Need-returns
+returns c = sym (leads-at _ _ _ (c .before .if1 .taken))
+
+returns-2 : tie.Need-returns-2
+returns-2 c = sym (leads-none _ _ _ (c .if1 .left))
+
+pub leads-spec : {M : Type 1} → statement M
+leads-spec = tie.close (tie.spec shared-slice-read-result returns returns-2)

@@ -1,0 +1,59 @@
+-- Decimals (document 01, "Is the studio inside"), read from the front of a text.
+use mathlib.Core.Bool.{Bool, false, cond, not, _&&_, _||_}
+use mathlib.Core.List.{List, [], _∷_}
+use Prim.Native.Nat.{ℕ, _+_, _-_, _*_, _^_}
+use Prim.Native.Char.{code}
+use lib.Dec.{eqb, leb}
+use lib.ListN.{length, take, drop}
+use Rattle.text.specs.Bytes.{digits, number}
+use Rattle.coordinates.specs.declared.Decimal.{Decimal}
+use Rattle.coordinates.specs.declared.Decimal.the-variants.{Value, Fault}
+use Rattle.coordinates.specs.declared.Radius.{Radius}
+use Rattle.coordinates.specs.declared.Radius.the-variants as radius
+
+-- the byte b leads the text
+unfoldable pub leads : ℕ → List ℕ → Bool
+leads b [] = false
+leads b (c ∷ l) = eqb c b
+
+-- ---- digits, optionally a point and digits
+
+-- the digits before the point, and what stands behind them
+abbrev pub whole : List ℕ → List ℕ
+whole l = take (digits l) l
+
+abbrev pub behindWhole : List ℕ → List ℕ
+behindWhole l = drop (digits l) l
+
+abbrev pub hasPoint : List ℕ → Bool
+hasPoint l = leads (code ".") (behindWhole l)
+
+-- how many digits stand behind the point, and these digits; none without a point
+unfoldable pub places : List ℕ → ℕ
+places l = cond (hasPoint l) (digits (drop 1 (behindWhole l))) 0
+
+unfoldable pub fraction : List ℕ → List ℕ
+fraction l = take (places l) (drop 1 (behindWhole l))
+
+unfoldable pub decimalLength : List ℕ → ℕ
+decimalLength l = cond (hasPoint l) (digits l + (1 + places l)) (digits l)
+
+-- 1 to w digits, optionally a point and 1 to f digits
+unfoldable pub isDecimal : ℕ → ℕ → List ℕ → Bool
+isDecimal w f l = leb 1 (digits l) && leb (digits l) w && (not (hasPoint l) || leb 1 (places l) && leb (places l) f)
+
+-- the number that is written, in units of the f-th place behind the point
+unfoldable pub scaled : ℕ → List ℕ → ℕ
+scaled f l = number (whole l) * 10 ^ f + number (fraction l) * 10 ^ (f - places l)
+
+-- the decimal that leads the text l, which stands at place i
+unfoldable pub decimalAt : ℕ → ℕ → ℕ → List ℕ → Decimal
+decimalAt w f i l = cond (isDecimal w f l) (Value (scaled f l) (i + decimalLength l)) Fault
+
+-- ---- "the radius in km: 1 to 5 digits, optionally a point and 1 to 3 digits, at most 20,000": in metres
+
+abbrev pub isRadius : List ℕ → Bool
+isRadius l = isDecimal 5 3 l && eqb (decimalLength l) (length l) && leb (scaled 3 l) 20_000_000
+
+unfoldable pub radiusOf : List ℕ → Radius
+radiusOf l = cond (isRadius l) (radius.Metres (scaled 3 l)) radius.Fault

@@ -1,0 +1,74 @@
+-- Latitudes, longitudes and pairs of them (document 01, "The packet" and "Is the studio inside"), in units of 1e-7 degree.
+use mathlib.Core.Bool.{Bool, cond, _&&_, _||_}
+use mathlib.Core.List.{List}
+use Prim.Native.Nat.{ℕ, _+_}
+use Prim.Native.Char.{code}
+use lib.Dec.{eqb, leb}
+use lib.IntN.{ℤ, pos, negℤ}
+use lib.Signed.{leZ}
+use lib.ListN.{length, drop}
+use Rattle.coordinates.specs.declared.Place.{Place}
+use Rattle.coordinates.specs.declared.Coordinate.{Coordinate}
+use Rattle.coordinates.specs.declared.Coordinate.the-variants.{Value, Fault}
+use Rattle.coordinates.specs.declared.Degrees.{Degrees}
+use Rattle.coordinates.specs.declared.Degrees.the-variants as degrees
+use Rattle.coordinates.specs.declared.Pair.{Pair}
+use Rattle.coordinates.specs.declared.Pair.the-variants as pair
+use Rattle.coordinates.specs.Decimal.{leads, isDecimal, scaled, decimalLength}
+
+-- ---- "within 900,000,000 and 1,800,000,000 either way"
+
+abbrev pub latitudeLimit : ℕ
+latitudeLimit = 900_000_000
+
+abbrev pub longitudeLimit : ℕ
+longitudeLimit = 1_800_000_000
+
+abbrev pub within : ℕ → ℤ → Bool
+within limit z = leZ (negℤ (pos limit)) z && leZ z (pos limit)
+
+abbrev pub inRange : Place → Bool
+inRange p = within latitudeLimit (p .lat) && within longitudeLimit (p .lon)
+
+-- ---- "optional sign, 1 to 3 digits, optionally a point and 1 to 7 digits, within range"
+
+abbrev pub signLength : List ℕ → ℕ
+signLength l = cond (leads (code "+") l || leads (code "-") l) 1 0
+
+abbrev pub unsigned : List ℕ → List ℕ
+unsigned l = drop (signLength l) l
+
+abbrev pub isCoordinate : ℕ → List ℕ → Bool
+isCoordinate limit l = isDecimal 3 7 (unsigned l) && leb (scaled 7 (unsigned l)) limit
+
+abbrev pub coordinateValue : List ℕ → ℤ
+coordinateValue l = cond (leads (code "-") l) (negℤ (pos (scaled 7 (unsigned l)))) (pos (scaled 7 (unsigned l)))
+
+-- the coordinate that leads the text l, which stands at place i
+unfoldable pub coordinateAt : ℕ → ℕ → List ℕ → Coordinate
+coordinateAt limit i l =
+    cond (isCoordinate limit l)
+    (Value (coordinateValue l) (i + (signLength l + decimalLength (unsigned l))))
+    Fault
+
+-- the coordinate that a whole text of n bytes writes
+abbrev pub wholeText : ℕ → Coordinate → Degrees
+wholeText n (Value z e) = cond (eqb e n) (degrees.Units z) degrees.Fault
+wholeText n Fault = degrees.Fault
+
+unfoldable pub degreesOf : ℕ → List ℕ → Degrees
+degreesOf limit l = wholeText (length l) (coordinateAt limit 0 l)
+
+-- ---- "A pair is latitude, comma, longitude"
+
+abbrev pub withLongitude : ℤ → Degrees → Pair
+withLongitude y (degrees.Units x) = pair.At (record { lat = y; lon = x })
+withLongitude y degrees.Fault = pair.Fault
+
+abbrev pub withLatitude : List ℕ → Coordinate → Pair
+withLatitude l (Value y e) =
+    cond (leads (code ",") (drop e l)) (withLongitude y (degreesOf longitudeLimit (drop (e + 1) l))) pair.Fault
+withLatitude l Fault = pair.Fault
+
+unfoldable pub pairOf : List ℕ → Pair
+pairOf l = withLatitude l (coordinateAt latitudeLimit 0 l)

@@ -1,0 +1,5 @@
+pub mod Polygon
+pub mod Edges
+pub mod Next
+pub mod Ring
+pub mod Samples

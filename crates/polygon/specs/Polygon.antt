@@ -1,0 +1,105 @@
+-- Polygons (document 01, "Is the studio inside"): their texts, and whether a place lies inside, on the flat grid of latitude and longitude, exact.
+use mathlib.Core.Bool.{Bool, true, false, cond, not, _&&_, _||_}
+use mathlib.Core.List.{List, [], _∷_}
+use Prim.Native.Nat.{ℕ, _+_, _%_}
+use lib.Dec.{eqb, leb}
+use lib.IntN.{ℤ, pos, _-ℤ_, _*ℤ_}
+use lib.Signed.{ltZ, leZ}
+use lib.ListN.{length}
+use mir.Val.{boolByte}
+use Rattle.text.specs.Tokens.{tokens}
+use Rattle.coordinates.specs.declared.Place.{Place}
+use Rattle.coordinates.specs.declared.Pair.{Pair}
+use Rattle.coordinates.specs.declared.Pair.the-variants.{At, Fault}
+use Rattle.coordinates.specs.declared.Inclusion.{Inclusion}
+use Rattle.coordinates.specs.declared.Inclusion.the-variants as inclusion
+use Rattle.coordinates.specs.Place.{pairOf}
+
+-- ---- "pairs stand between white space, which may also lead and trail": every token of the text is a pair
+
+abbrev pub isPair : Pair → Bool
+isPair (At p) = true
+isPair Fault = false
+
+-- the place of a pair (of no use where it is none)
+abbrev pub placeOf : Pair → Place
+placeOf (At p) = p
+placeOf Fault = record { lat = pos 0; lon = pos 0 }
+
+unfoldable pub allPairs : List (List ℕ) → Bool
+allPairs [] = true
+allPairs (t ∷ ts) = isPair (pairOf t) && allPairs ts
+
+unfoldable pub placesOf : List (List ℕ) → List Place
+placesOf [] = []
+placesOf (t ∷ ts) = placeOf (pairOf t) ∷ placesOf ts
+
+-- ---- "A polygon has at least 4 pairs, the last equal to the first in value."
+
+abbrev pub same : ℤ → ℤ → Bool
+same a b = leZ a b && leZ b a
+
+abbrev pub samePlace : Place → Place → Bool
+samePlace p q = same (p .lat) (q .lat) && same (p .lon) (q .lon)
+
+-- the last of the places that start with p
+unfoldable pub lastOf : Place → List Place → Place
+lastOf p [] = p
+lastOf p (q ∷ l) = lastOf q l
+
+unfoldable pub isClosed : List Place → Bool
+isClosed [] = false
+isClosed (p ∷ l) = samePlace p (lastOf p l)
+
+unfoldable pub isPolygon : List ℕ → Bool
+isPolygon l = allPairs (tokens l) && leb 4 (length (tokens l)) && isClosed (placesOf (tokens l))
+
+-- ---- an edge from a to b, and a place p
+
+-- Two products that are equal where p lies on the line through a and b: p's way east of a times the edge's way north, and the edge's way east times p's way north of a.
+unfoldable pub eastOf : Place → Place → Place → ℤ
+eastOf a b p = (p .lon -ℤ a .lon) *ℤ (b .lat -ℤ a .lat)
+
+unfoldable pub northOf : Place → Place → Place → ℤ
+northOf a b p = (b .lon -ℤ a .lon) *ℤ (p .lat -ℤ a .lat)
+
+abbrev pub between : ℤ → ℤ → ℤ → Bool
+between a b z = leZ a z && leZ z b || leZ b z && leZ z a
+
+-- p lies on the edge
+unfoldable pub onEdge : Place → Place → Place → Bool
+onEdge a b p =
+    same (eastOf a b p) (northOf a b p)
+    && between (a .lat) (b .lat) (p .lat)
+    && between (a .lon) (b .lon) (p .lon)
+
+-- "one end at or below its latitude, the other above, and cross that latitude strictly east of it". The edge crosses p's latitude (northOf a b p) / (b .lat - a .lat) east of a, so strictly east of p means eastOf < northOf where b lies north of a, and the other way round where it lies south.
+abbrev pub crossesAt : ℤ → ℤ → ℤ → ℤ → ℤ → Bool
+crossesAt a b z east north = leZ a z && ltZ z b && ltZ east north || leZ b z && ltZ z a && ltZ north east
+
+unfoldable pub crosses : Place → Place → Place → Bool
+crosses a b p = crossesAt (a .lat) (b .lat) (p .lat) (eastOf a b p) (northOf a b p)
+
+-- ---- "a place on an edge is inside; else it is inside if an odd number of edges ..."
+
+-- p lies on an edge of the ring
+unfoldable pub onRing : List Place → Place → Bool
+onRing [] p = false
+onRing (a ∷ []) p = false
+onRing (a ∷ b ∷ l) p = onEdge a b p || onRing (b ∷ l) p
+
+-- how many edges of the ring cross east of p
+unfoldable pub crossings : List Place → Place → ℕ
+crossings [] p = 0
+crossings (a ∷ []) p = 0
+crossings (a ∷ b ∷ l) p = boolByte (crosses a b p) + crossings (b ∷ l) p
+
+unfoldable pub inRing : List Place → Place → Bool
+inRing l p = onRing l p || eqb (crossings l p % 2) 1
+
+-- whether the polygon of a text holds a place
+unfoldable pub polygonHolds : List ℕ → Place → Inclusion
+polygonHolds l p =
+    cond (isPolygon l)
+    (cond (inRing (placesOf (tokens l)) p) inclusion.Inside inclusion.Outside)
+    inclusion.Fault

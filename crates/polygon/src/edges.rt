@@ -1,0 +1,103 @@
+// An edge and a place: products of differences by sign and magnitude, and what the edge says of the place.
+use coordinates::Place;
+ghost use mathlib.Core.Path.{_≡_};
+ghost use lib.IntN.{_-ℤ_, _*ℤ_};
+ghost use lib.Signed.{ltZ};
+ghost use Rattle.integers.specs.Magnitude.{lessBy};
+ghost use Rattle.polygon.specs.Polygon.{between, eastOf, northOf};
+ghost use Rattle.polygon.specs.Edges.{valueOf, inBox, crossedBy, edgeOf, plusOf};
+
+// A product by its sign and magnitude.
+struct Product {
+    negative: bool,
+    magnitude: u64,
+}
+
+// What edges say of a place: it lies on one of them, and an odd number of them cross east of it.
+pub struct Edge {
+    pub on: bool,
+    pub crossed: bool,
+}
+
+// The order of two numbers by sign and magnitude: s and t say that they are negative, and may say either of 0.
+fn less_by(s: bool, m: u64, t: bool, n: u64) -> bool
+    ensures { λ r. ⌜ r ≡ lessBy s m t n ⌝ }
+{
+    (s & t & (n < m)) | (s & !t & ((0 < m) | (0 < n))) | (!s & !t & (m < n))
+}
+
+// Whether one product is less than another.
+fn is_less(p: Product, q: Product) -> bool
+    ensures { λ r. ⌜ r ≡ ltZ (valueOf p) (valueOf q) ⌝ }
+{
+    less_by(p.negative, p.magnitude, q.negative, q.magnitude)
+}
+
+// The product of two differences of coordinates: a - b times c - d. A difference is below 2^32 either way, so that the magnitude fits 64 bits.
+fn product_of(a: i32, b: i32, c: i32, d: i32) -> Product
+    ensures { λ r. ⌜ valueOf r ≡ (a -ℤ b) *ℤ (c -ℤ d) ⌝ }
+{
+    let negative = (a < b) != (c < d);
+    let magnitude = coordinates::distance(a, b) * coordinates::distance(c, d);
+    Product {
+        negative,
+        magnitude,
+    }
+}
+
+// The place's way east of a times the edge's way north.
+fn east_of(a: Place, b: Place, p: Place) -> Product
+    ensures { λ r. ⌜ valueOf r ≡ eastOf a b p ⌝ }
+{
+    product_of(p.lon, a.lon, b.lat, a.lat)
+}
+
+// The edge's way east times the place's way north of a.
+fn north_of(a: Place, b: Place, p: Place) -> Product
+    ensures { λ r. ⌜ valueOf r ≡ northOf a b p ⌝ }
+{
+    product_of(b.lon, a.lon, p.lat, a.lat)
+}
+
+// Whether z lies between a and b, in either order.
+fn between(a: i32, b: i32, z: i32) -> bool
+    ensures { λ r. ⌜ r ≡ between a b z ⌝ }
+{
+    ((a <= z) & (z <= b)) | ((b <= z) & (z <= a))
+}
+
+// Whether the place lies in the box that has a and b as corners.
+fn in_box(a: Place, b: Place, p: Place) -> bool
+    ensures { λ r. ⌜ r ≡ inBox a b p ⌝ }
+{
+    between(a.lat, b.lat, p.lat) & between(a.lon, b.lon, p.lon)
+}
+
+// Whether an edge from latitude a to b crosses latitude z strictly east: `less` where the east product is less than the north product, `more` where it is more.
+fn is_crossed(a: i32, b: i32, z: i32, less: bool, more: bool) -> bool
+    ensures { λ r. ⌜ r ≡ crossedBy a b z less more ⌝ }
+{
+    ((a <= z) & (z < b) & less) | ((b <= z) & (z < a) & more)
+}
+
+// What the edge from a to b says of the place p.
+pub fn judge(a: Place, b: Place, p: Place) -> Edge
+    ensures { λ r. ⌜ r ≡ edgeOf a b p ⌝ }
+{
+    let east = east_of(a, b, p);
+    let north = north_of(a, b, p);
+    let less = is_less(east, north);
+    let more = is_less(north, east);
+    let on = !less & !more & in_box(a, b, p);
+    let crossed = is_crossed(a.lat, b.lat, p.lat, less, more);
+    Edge { on, crossed }
+}
+
+// What edges a and edges b say together: on either of them, and an odd number of crossings.
+pub fn plus(a: Edge, b: Edge) -> Edge
+    ensures { λ r. ⌜ r ≡ plusOf a b ⌝ }
+{
+    let on = a.on | b.on;
+    let crossed = a.crossed != b.crossed;
+    Edge { on, crossed }
+}
