@@ -7,3 +7,7 @@ pub mod Letters
 pub mod Same
 pub mod Groups
 pub mod Turns
+pub mod CodeTable
+pub mod Names
+pub mod Answer
+pub mod Pieces

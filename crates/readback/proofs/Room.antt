@@ -10,7 +10,7 @@ use borrow.Rule.Slice.PartMut.{putMid, midOf}
 use Rattle.text.specs.Buffer.{front, Put}
 use Rattle.text.proofs.Buffer.{put-written}
 use Rattle.readback.specs.declared.Written.the-variants.{End, NoRoom}
-use Rattle.readback.specs.Writing.{ending, after}
+use Rattle.readback.specs.Writing.{ending, afterText}
 
 -- room for a text is room for what leads it
 pub room-left : {n : ℕ} (s t : List ℕ) → length (s ++ t) ≤ n → length s ≤ n
@@ -26,16 +26,16 @@ pub put-drop : (d s : List ℕ) {e t : List ℕ} {k : ℕ} → Put d s e k → t
 put-drop d s p q = q ∙ ap (drop 1) (put-take d s p)
 
 module _ (d : List ℕ) (at : ℕ) (s : List ℕ) where
-  pub no-room : length d < at + length s → (NoRoom ≡ ending d at s) × (d ≡ after d at s)
-  unfolding ending after
+  pub no-room : length d < at + length s → (NoRoom ≡ ending d at s) × (d ≡ afterText d at s)
+  unfolding ending afterText
   no-room h = let e = lt-leb (at + length s) (length d) h in (rw e, rw e)
 
   pub has-room :
       {f : List ℕ} {k : ℕ}
       → at + length s ≤ length d
       → Put (midOf at (length d - at) d) s f k
-      → (End (at + k) ≡ ending d at s) × (putMid at (length d - at) d f ≡ after d at s)
-  unfolding ending after
+      → (End (at + k) ≡ ending d at s) × (putMid at (length d - at) d f ≡ afterText d at s)
+  unfolding ending afterText
   has-room h p =
       let e = le-leb (at + length s) (length d) h in
       (rw e (ap (λ (n : ℕ). End (at + n)) (p .size)), rw e (put-written at d s p))

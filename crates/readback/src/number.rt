@@ -5,7 +5,8 @@ use crate::dictionary::MILLION;
 use crate::dictionary::TENS;
 use crate::dictionary::THOUSAND;
 use crate::dictionary::put_word;
-ghost use mathlib.Core.Path.{_≡_};
+use crate::put::put;
+ghost use mathlib.Core.List.{_++_};
 ghost use Prim.Native.Nat.{_≤_, _<_};
 ghost use lib.ListN.{length};
 ghost use Rattle.text.specs.Buffer.{Put};
@@ -72,4 +73,21 @@ pub fn put_number(dst: &mut [u8], n: u32) -> usize
     let b = a + put_group(&mut dst[a..], x / 1_000_000 % 1_000, MILLION);
     let c = b + put_group(&mut dst[b..], x / 1_000 % 1_000, THOUSAND);
     c + put_below_thousand(&mut dst[c..], x % 1_000)
+}
+
+// A number in words behind the text that stands in front of it.
+pub fn put_count(dst: &mut [u8], before: &[u8], n: u32) -> usize
+    requires { ⌜ length (now before ++ said n) ≤ length (now dst) ⌝ }
+    ensures { λ r. ⌜ Put (now (dst .entry)) (now (before .entry) ++ said n) (now (dst .exit)) r ⌝ }
+{
+    let k = put(dst, before);
+    k + put_number(&mut dst[k..], n)
+}
+
+// The same of a number below 256.
+pub fn put_byte(dst: &mut [u8], before: &[u8], n: u8) -> usize
+    requires { ⌜ length (now before ++ said n) ≤ length (now dst) ⌝ }
+    ensures { λ r. ⌜ Put (now (dst .entry)) (now (before .entry) ++ said n) (now (dst .exit)) r ⌝ }
+{
+    put_count(dst, before, n as u32)
 }

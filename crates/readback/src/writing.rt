@@ -3,11 +3,11 @@ use crate::Written;
 use crate::put::put;
 ghost use mathlib.Core.Path.{_≡_};
 ghost use lib.ListN.{drop};
-ghost use Rattle.readback.specs.Writing.{ending, after};
+ghost use Rattle.readback.specs.Writing.{ending, afterText};
 
 // Writes a text into the buffer from start on; changes nothing where it has no room there.
 pub fn write_text(buffer: &mut [u8], start: usize, text: &[u8]) -> Written
-    ensures { λ r. ⌜ (r ≡ ending (now (buffer .entry)) start (now (text .entry))) × (now (buffer .exit) ≡ after (now (buffer .entry)) start (now (text .entry))) ⌝ }
+    ensures { λ r. ⌜ (r ≡ ending (now (buffer .entry)) start (now (text .entry))) × (now (buffer .exit) ≡ afterText (now (buffer .entry)) start (now (text .entry))) ⌝ }
 {
     let n = buffer.len();
     if n < start {

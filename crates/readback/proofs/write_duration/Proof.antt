@@ -1,5 +1,5 @@
 -- The array holds the words behind their spaces, and they are written without the first space.
-use mathlib.Core.Path.{sym}
+use mathlib.Core.Path.{sym, refl}
 use lib.Seq.{length-take-le}
 use borrow.Author.Needs.{needs}
 use Rattle.text.proofs.Buffer.{put-in}
@@ -10,7 +10,7 @@ use Rattle.readback.proofs.write_duration.Statement.{statement}
 use Rattle.readback.proofs.write_duration.Tie as tie
 
 slice-aggregate-put-duration : tie.Need-slice-aggregate-put-duration
-slice-aggregate-put-duration c = search needs
+slice-aggregate-put-duration c = refl
 
 put-duration-requires : tie.Need-put-duration-requires
 put-duration-requires c κs = duration-le _ (c .before .before .fits .seconds .fits)

@@ -1,5 +1,5 @@
 -- The array holds the words behind their spaces, and they are written without the first space.
-use mathlib.Core.Path.{sym}
+use mathlib.Core.Path.{sym, refl}
 use lib.Seq.{length-take-le}
 use borrow.Author.Needs.{needs}
 use Rattle.text.proofs.Buffer.{put-in}
@@ -10,7 +10,7 @@ use Rattle.readback.proofs.write_number.Statement.{statement}
 use Rattle.readback.proofs.write_number.Tie as tie
 
 slice-aggregate-put-number : tie.Need-slice-aggregate-put-number
-slice-aggregate-put-number c = search needs
+slice-aggregate-put-number c = refl
 
 put-number-requires : tie.Need-put-number-requires
 put-number-requires c κs = said-le _ (c .before .before .fits .n .fits)

@@ -1,7 +1,7 @@
 -- From 100 on: the hundreds' number, its word, and the rest behind them.
 use mathlib.Core.List.{List, [], _∷_, _++_}
 use Prim.Native.Nat.{ℕ, _≤_, _/_, _%_}
-use native.Mathlib.Nat.{lt-of-le-of-lt}
+use native.Mathlib.Nat.{lt-of-le-of-lt, le-refl}
 use native.Mathlib.Omega.{arith}
 use lib.ListN.{length}
 use borrow.Author.Needs.{needs}
@@ -52,7 +52,7 @@ part-put-word-start : tie.Need-part-put-word-start
 part-put-word-start c = sub-put-word c
 
 part-put-word-end : tie.Need-part-put-word-end
-part-put-word-end c = search needs
+part-put-word-end c = le-refl _
 
 put-word-requires-2 : tie.Need-put-word-requires-2
 put-word-requires-2 c κs =
@@ -77,7 +77,7 @@ part-put-below-hundred-start : tie.Need-part-put-below-hundred-start
 part-put-below-hundred-start c = sub-put-below-hundred c
 
 part-put-below-hundred-end : tie.Need-part-put-below-hundred-end
-part-put-below-hundred-end c = search needs
+part-put-below-hundred-end c = le-refl _
 
 put-below-hundred-requires-2 : tie.Need-put-below-hundred-requires-2
 put-below-hundred-requires-2 c κs =

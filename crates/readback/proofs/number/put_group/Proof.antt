@@ -1,10 +1,9 @@
 -- A group that is not empty: its number, and its word behind it.
 use mathlib.Core.List.{List, [], _∷_, _++_}
 use Prim.Native.Nat.{ℕ, _≤_}
-use native.Mathlib.Nat.{lt-of-le-of-lt}
+use native.Mathlib.Nat.{lt-of-le-of-lt, le-refl}
 use native.Mathlib.Omega.{arith}
 use lib.ListN.{length}
-use borrow.Author.Needs.{needs}
 use Rattle.text.proofs.Buffer.{put-none, put-in, put-same, put-room, put-then, put-sum}
 use Rattle.words.specs.Words.{spaced, belowThousand}
 use Rattle.words.proofs.Cases.{group-none, group-some}
@@ -40,7 +39,7 @@ part-put-word-start : tie.Need-part-put-word-start
 part-put-word-start c = sub-put-word c
 
 part-put-word-end : tie.Need-part-put-word-end
-part-put-word-end c = search needs
+part-put-word-end c = le-refl _
 
 put-word-requires : tie.Need-put-word-requires
 put-word-requires c κs =

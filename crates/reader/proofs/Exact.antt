@@ -1,0 +1,133 @@
+-- What was found at a place is the read-back that stands there exactly where its sentence, written into an array of one's own, leads the text from there on.
+use mathlib.Core.Path.{_≡_, refl, sym, ap, ap₂, _∙_}
+use mathlib.Core.Bool.{Bool, true, false}
+use mathlib.Core.List.{List}
+use Prim.Native.Nat.{ℕ, _+_, _≤_}
+use native.Mathlib.Nat.{zero-add}
+use native.Mathlib.Omega.{arith}
+use lib.ListN.{length, take, drop}
+use lib.Seq.{take-at}
+use Rattle.text.specs.Ascii.{ascii}
+use Rattle.text.specs.Buffer.{written}
+use Rattle.text.specs.Logic.{by-test}
+use Rattle.sheet.specs.declared.CapFacts.{CapFacts}
+use Rattle.sheet.specs.declared.WarnFacts.{WarnFacts}
+use Rattle.sheet.specs.declared.Span.{Span}
+use Rattle.sheet.specs.declared.Found.{Found}
+use Rattle.sheet.specs.declared.Found.the-variants as found
+use Rattle.sheet.specs.declared.Line.the-variants as line
+use Rattle.sheet.specs.declared.Wrote.{Wrote}
+use Rattle.sheet.specs.declared.Wrote.the-variants.{End, OutOfRange, NoRoom}
+use Rattle.sheet.specs.Sheet.{Sheet, cap, warn, startsWith, inRange}
+use Rattle.sheet.specs.Sentence.{sentence}
+use Rattle.sheet.specs.Reading.{warnOf, foundAt, spanIn, sheetIn, sheetOf, isLine, lineAt}
+use Rattle.sheet.specs.Answers.{wrote, after}
+use Rattle.sheet.proofs.Lengths.{sentence-le}
+use Rattle.sheet.proofs.ReadSentence.{found-at}
+use Rattle.sheet.proofs.WriteOne.{length-written, refuse-range, write-end}
+use Rattle.reader.specs.Pieces.{capAt}
+
+-- ---- the kind of a sheet
+
+module _ (i : ℕ) (l : List ℕ) (r : Bool) (e : r ≡ startsWith (ascii "warn") l) where
+  pub found-warn : r ≡ true → (w : WarnFacts) → w ≡ warnOf l → found.Warn w ≡ foundAt i l
+  unfolding foundAt
+  found-warn b w q = rw (sym e ∙ b) (ap found.Warn q)
+
+  pub found-cap : r ≡ false → (f : Found) → f ≡ capAt i l → f ≡ foundAt i l
+  unfolding foundAt
+  found-cap b f q = rw (sym e ∙ b) q
+
+-- ---- a sentence written over the front of a buffer of 1,024 bytes, which has room for every sentence
+
+module _ (d : List ℕ) (x : Sheet) (big : 1_024 ≤ length d) where
+  wrote-in : inRange x ≡ true → (wrote d 0 x ≡ End (0 + length (sentence x))) × (after d 0 x ≡ written d 0 (sentence x))
+  wrote-in r = write-end d 0 x r (omega (arith, sentence-le x r))
+
+  wrote-out : inRange x ≡ false → wrote d 0 x ≡ OutOfRange
+  wrote-out r = refuse-range d 0 x r .0
+
+  record Ended (n : ℕ) : Type 0 where
+    pub range : inRange x ≡ true
+    pub size : n ≡ length (sentence x)
+    pub room : n ≤ length (after d 0 x)
+    pub bytes : take n (after d 0 x) ≡ sentence x
+
+  written-front : take (length (sentence x)) (written d 0 (sentence x)) ≡ sentence x
+  unfolding written
+  written-front = take-at (sentence x) (drop (0 + length (sentence x)) d) (length (sentence x)) refl
+
+  ended : (n : ℕ) → wrote d 0 x ≡ End n → inRange x ≡ true → Ended n
+  ended n e r =
+      let w = wrote-in r in
+      let s : n ≡ length (sentence x) = cc (w .0, zero-add (length (sentence x))) in
+      let h = length-written d 0 (sentence x) (omega (arith, sentence-le x r)) in
+      record { range = r; size = s; room = rw (w .1, h, s) (omega (arith, sentence-le x r)); bytes = ap₂ take s (w .1) ∙ written-front }
+
+  wrote-end : (n : ℕ) → wrote d 0 x ≡ End n → Ended n
+  wrote-end n e =
+      by-test (inRange x)
+      (ended n e)
+      (λ r. absurd (let z : _≡_ {A = ℕ} 0 1 = cc (wrote-out r) in omega arith))
+
+  pub room-for : (n : ℕ) (b : List ℕ) → wrote d 0 x ≡ End n → b ≡ after d 0 x → n ≤ length b
+  room-for n b e w = rw w (wrote-end n e .room)
+
+  wrote-range : wrote d 0 x ≡ OutOfRange → inRange x ≡ false
+  wrote-range e =
+      by-test (inRange x)
+      (λ r. absurd (let z : _≡_ {A = ℕ} 0 1 = cc (wrote-in r .0) in omega arith))
+      (λ r. r)
+
+  wrote-room : wrote d 0 x ≡ NoRoom → ⊥
+  wrote-room e =
+      by-test (inRange x)
+      (λ r. let z : _≡_ {A = ℕ} 0 1 = cc (wrote-in r .0) in omega arith)
+      (λ r. let z : _≡_ {A = ℕ} 0 1 = cc (wrote-out r) in omega arith)
+
+-- ---- the line at a place, from what was found there
+
+module _ (t : List ℕ) (at : ℕ) (f : Found) (q : f ≡ foundAt at (drop at t)) where
+  sheet-is : sheetIn t f ≡ sheetOf (drop at t)
+  sheet-is = ap (sheetIn t) q ∙ found-at at t
+
+  module _ (d : List ℕ) (big : 1_024 ≤ length d) where
+    -- n bytes of b were written, and r says whether they lead the text there
+    module _ (n : ℕ) (e : wrote d 0 (sheetIn t f) ≡ End n) (b : List ℕ) (w : b ≡ after d 0 (sheetIn t f)) (r : Bool) (s : r ≡ startsWith (take n b) (drop at t)) where
+      end-is : Ended d (sheetIn t f) big n
+      end-is = wrote-end d (sheetIn t f) big n e
+
+      line-test : isLine (drop at t) ≡ r
+      unfolding isLine
+      line-test =
+          rw (isLine, ← sheet-is, end-is .range)
+          (ap (λ (p : List ℕ). startsWith p (drop at t)) (sym (end-is .bytes) ∙ ap (take n) (sym w)) ∙ sym s)
+
+      pub line-sentence : r ≡ true → line.Sentence f n ≡ lineAt at (drop at t)
+      unfolding lineAt
+      line-sentence h = rw (lineAt, line-test ∙ h) (ap₂ line.Sentence q (end-is .size ∙ ap (λ (x : Sheet). length (sentence x)) sheet-is))
+
+      pub line-differs : r ≡ false → line.Other ≡ lineAt at (drop at t)
+      unfolding lineAt
+      line-differs h = rw (lineAt, line-test ∙ h)
+
+    pub line-range : wrote d 0 (sheetIn t f) ≡ OutOfRange → line.Other ≡ lineAt at (drop at t)
+    unfolding lineAt isLine
+    line-range e = rw (lineAt, isLine, ← sheet-is, wrote-range d (sheetIn t f) big e)
+
+    pub line-room : wrote d 0 (sheetIn t f) ≡ NoRoom → line.Other ≡ lineAt at (drop at t)
+    line-room e = absurd (wrote-room d (sheetIn t f) big e)
+
+-- ---- writing what was found
+
+module _ (t : List ℕ) (g : Found) where
+  pub sheet-cap : (f : CapFacts) (s n : Span) (a b : List ℕ) → g ≡ found.Cap f s n → a ≡ spanIn t s → b ≡ spanIn t n → cap f a b ≡ sheetIn t g
+  unfolding sheetIn
+  sheet-cap f s n a b e p q = ap₂ (cap f) p q ∙ sym (ap (sheetIn t) e)
+
+  pub sheet-warn : (f : WarnFacts) → g ≡ found.Warn f → warn f ≡ sheetIn t g
+  unfolding sheetIn
+  sheet-warn f e = sym (ap (sheetIn t) e)
+
+pub wrote-same : (d e : List ℕ) (r : Wrote) (x y : Sheet) → x ≡ y → (r ≡ wrote d 0 x) × (e ≡ after d 0 x) → (r ≡ wrote d 0 y) × (e ≡ after d 0 y)
+wrote-same d e r x y q p = (p .0 ∙ ap (wrote d 0) q, p .1 ∙ ap (after d 0) q)

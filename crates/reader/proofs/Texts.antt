@@ -1,0 +1,51 @@
+-- Parts of a text, and a text compared with what leads another.
+use mathlib.Core.Path.{_≡_, refl, sym, ap}
+use mathlib.Core.Bool.{Bool, true, false, _&&_}
+use mathlib.Core.List.{List, [], _∷_}
+use Prim.Native.Nat.{ℕ, _+_, _-_, _≤_, _<_}
+use native.Mathlib.Nat.{suc-inj}
+use native.Mathlib.Numerals.{add-one}
+use native.Mathlib.Omega.{arith}
+use lib.Dec.{eqb}
+use lib.ListN.{length, getD, take, drop, length-drop, drop-of-length-le}
+use lib.Seq.{drop-cons, take-all}
+use borrow.Author.Tests.{eq-eqb, ne-eqb}
+use Rattle.text.specs.Logic.{eql}
+use Rattle.sheet.specs.Sheet.{startsWith}
+
+-- ---- parts
+
+pub drop-part : (t : List ℕ) (k : ℕ) → take (length t - k) (drop k t) ≡ drop k t
+drop-part t k = take-all (length t - k) (drop k t) (simp length-drop (omega arith))
+
+pub drop-past : (t : List ℕ) (k : ℕ) → length t ≤ k → [] ≡ drop k t
+drop-past t k h = sym (drop-of-length-le t h)
+
+-- ---- p leads t, byte by byte
+
+module _ (t p : List ℕ) (i : ℕ) where
+  pub starts-on :
+      i < length p → i < length t → getD t i 0 ≡ getD p i 0
+      → startsWith (drop i p) (drop i t) ≡ startsWith (drop (i + 1) p) (drop (i + 1) t)
+  unfolding startsWith
+  starts-on h g e = rw (drop-cons p i 0 h, drop-cons t i 0 g, eq-eqb (getD t i 0) (getD p i 0) e, add-one i)
+
+  pub starts-differ : i < length p → i < length t → (getD t i 0 ≡ getD p i 0 → ⊥) → startsWith (drop i p) (drop i t) ≡ false
+  unfolding startsWith
+  starts-differ h g n = rw (drop-cons p i 0 h, drop-cons t i 0 g, ne-eqb (getD t i 0) (getD p i 0) n)
+
+  pub starts-short : i < length p → length t ≤ i → startsWith (drop i p) (drop i t) ≡ false
+  unfolding startsWith
+  starts-short h g = rw (drop-cons p i 0 h, drop-of-length-le t g)
+
+  pub starts-end : length p ≤ i → startsWith (drop i p) (drop i t) ≡ true
+  unfolding startsWith
+  starts-end h = rw (drop-of-length-le p h)
+
+-- of two texts of one length each leads the other only if they are equal
+pub starts-equal : (a b : List ℕ) → length a ≡ length b → startsWith b a ≡ eql a b
+unfolding startsWith
+starts-equal [] [] h = refl
+starts-equal [] (y ∷ b) h = absurd (omega arith)
+starts-equal (x ∷ a) [] h = absurd (omega arith)
+starts-equal (x ∷ a) (y ∷ b) h = ap (λ (r : Bool). eqb x y && r) (starts-equal a b (suc-inj h))

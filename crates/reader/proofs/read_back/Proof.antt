@@ -1,0 +1,116 @@
+-- Before each turn the answer from the place i on, with n read-backs before it, is the answer to the whole text.
+use mathlib.Core.Path.{_≡_, sym, ap, _∙_}
+use Prim.Native.Nat.{_+_, _-_, _≤_, _<_}
+use native.Mathlib.Omega.{arith}
+use lib.ListN.{length}
+use borrow.Author.Needs.{needs}
+use Rattle.sheet.specs.declared.ReadBack.the-variants as readback
+use Rattle.sheet.specs.Answers.{readBack}
+use Rattle.sheet.proofs.ReadLoop.{loop-start, loop-count, loop-sheet, loop-none}
+use Rattle.reader.proofs.Turns.{answerFrom, turn-room, turn-asked, turn-other, turn-stop}
+use Rattle.reader.proofs.read_back.Tie as tie
+use Rattle.reader.proofs.read_back.Statement.{statement}
+
+abbrev Inv-loop : tie.InvT-loop
+Inv-loop text k i₀ n₀ asked₀ i n asked = (n ≤ i) × (i ≤ length text) × (asked ≤ length text) × (answerFrom text k i n asked ≡ readBack text k)
+
+abbrev μ-loop : tie.MeasureT-loop
+μ-loop text k i₀ n₀ asked₀ i n asked = length text - i
+
+loop-holds : tie.Need-loop-holds Inv-loop μ-loop
+loop-holds c = (omega arith, omega arith, omega arith, loop-start (c .before .args .text .now) (c .before .args .k) _)
+
+line-at-requires : tie.Need-line-at-requires Inv-loop μ-loop
+line-at-requires c κs = c .before .loop .inv .1
+
+enum-known-size : tie.Need-enum-known-size Inv-loop μ-loop
+enum-known-size c = search needs
+
+add-n : tie.Need-add-n Inv-loop μ-loop
+add-n c = omega arith
+
+-- a read-back was met: it has a byte, and lies within the text
+room :
+    (c : tie.After-known-told Inv-loop μ-loop)
+    → (c .before .before .before .before .before .loop .i < c .before .before .before .before .before .loop .i + c .before .size .given .0 .1 .0)
+    × (c .before .before .before .before .before .loop .i + c .before .size .given .0 .1 .0 ≤ length (c .before .before .before .before .before .before .before .args .text .now))
+room c =
+    let l = c .before .before .before .before .before in
+    turn-room (l .before .before .args .text .now) (l .loop .i) _ (c .before .before .before .line-at .ensures) _ _ (c .before .size .given .1) (l .loop .inv .1)
+
+add-i : tie.Need-add-i Inv-loop μ-loop
+add-i c = let r = room (c .before) in omega arith
+
+loop-less : tie.Need-loop-less Inv-loop μ-loop
+loop-less c = let r = room (c .before) in omega arith
+
+loop-again : tie.Need-loop-again Inv-loop μ-loop
+loop-again c =
+    let l = c .before .before .before .before .before .before in
+    let a = l .before .before .args in
+    let r = room (c .before) in (
+      omega arith,
+      r .1,
+      l .loop .inv .1,
+      turn-asked (a .text .now) (l .loop .i) _ (c .before .before .before .before .line-at .ensures) _ _ (c .before .before .size .given .1) (a .k) (l .loop .n) (l .loop .asked) (c .if1 .taken)
+          ∙ l .loop .inv .3,
+    )
+
+add-i-2 : tie.Need-add-i-2 Inv-loop μ-loop
+add-i-2 c = let r = room (c .before) in omega arith
+
+loop-less-2 : tie.Need-loop-less-2 Inv-loop μ-loop
+loop-less-2 c = let r = room (c .before) in omega arith
+
+loop-again-2 : tie.Need-loop-again-2 Inv-loop μ-loop
+loop-again-2 c =
+    let l = c .before .before .before .before .before .before in
+    let a = l .before .before .args in
+    let r = room (c .before) in (
+      omega arith,
+      r .1,
+      l .loop .inv .2,
+      turn-other (a .text .now) (l .loop .i) _ (c .before .before .before .before .line-at .ensures) _ _ (c .before .before .size .given .1) (a .k) (l .loop .n) (l .loop .asked) (c .if1 .left)
+          ∙ l .loop .inv .3,
+    )
+
+enum-told : tie.Need-enum-told Inv-loop μ-loop
+enum-told c = search needs
+
+returns : tie.Need-returns Inv-loop μ-loop
+returns c = turn-stop (c .before .before .before .before .before .before .args .text .now) (c .before .before .before .before .loop .i) _ (c .before .before .line-at .ensures) _ _ _ (c .before .before .before .loop-test .taken) (c .enum-told .given .1) ∙ c .before .before .before .before .loop .inv .3
+
+returns-2 : tie.Need-returns-2 Inv-loop μ-loop
+returns-2 c = sym (loop-count (c .before .before .before .before .args .text .now) (c .before .before .before .before .args .k) (c .before .before .loop .i) _ _ (c .before .loop-test .left) (c .if2 .taken)) ∙ c .before .before .loop .inv .3
+
+returns-3 : tie.Need-returns-3 Inv-loop μ-loop
+returns-3 c = sym (loop-none (c .before .before .before .before .before .args .text .now) (c .before .before .before .before .before .args .k) (c .before .before .before .loop .i) _ _ (c .before .before .loop-test .left) (c .if3 .taken)) ∙ c .before .before .before .loop .inv .3
+
+found-at-requires : tie.Need-found-at-requires Inv-loop μ-loop
+found-at-requires c κs = c .before .before .before .loop .inv .2
+
+returns-4 : tie.Need-returns-4 Inv-loop μ-loop
+returns-4 c = ap (readback.Sheet (c .before .before .before .before .loop .n)) (c .found-at .ensures) ∙ sym (loop-sheet (c .before .before .before .before .before .before .args .text .now) (c .before .before .before .before .before .before .args .k) (c .before .before .before .before .loop .i) _ _ (c .before .before .before .loop-test .left) (omega arith) (c .before .if3 .left)) ∙ c .before .before .before .before .loop .inv .3
+
+pub read-back-spec : {M : Type 1} → statement M
+read-back-spec =
+    tie.close
+    (tie.spec
+    Inv-loop
+    μ-loop
+    loop-holds
+    line-at-requires
+    enum-known-size
+    add-n
+    add-i
+    loop-less
+    loop-again
+    add-i-2
+    loop-less-2
+    loop-again-2
+    enum-told
+    returns
+    returns-2
+    returns-3
+    found-at-requires
+    returns-4)

@@ -1,0 +1,19 @@
+-- Texts of different lengths differ; of one length, one leads the other only if they are equal.
+use mathlib.Core.Path.{_∙_}
+use borrow.Author.Needs.{needs}
+use Rattle.readback.proofs.Same.{same-length}
+use Rattle.reader.proofs.Texts.{starts-equal}
+use Rattle.reader.proofs.scan.equals.Tie as tie
+use Rattle.reader.proofs.scan.equals.Statement.{statement}
+
+returns : tie.Need-returns
+returns c = same-length (c .before .before .before .args .a .now) (c .before .before .before .args .b .now) (c .if1 .taken)
+
+starts-with-requires : tie.Need-starts-with-requires
+starts-with-requires c κs = search needs
+
+returns-2 : tie.Need-returns-2
+returns-2 c = c .starts-with .ensures ∙ starts-equal _ _ (c .before .if1 .left)
+
+pub equals-spec : {M : Type 1} → statement M
+equals-spec = tie.close (tie.spec returns starts-with-requires returns-2)

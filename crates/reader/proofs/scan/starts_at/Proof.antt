@@ -1,0 +1,18 @@
+-- What stands from a place on is what stands behind the bytes in front of it.
+use mathlib.Core.Path.{ap, _∙_}
+use borrow.Author.Needs.{needs}
+use Rattle.sheet.specs.Sheet.{startsWith}
+use Rattle.reader.proofs.scan.starts_at.Tie as tie
+use Rattle.reader.proofs.scan.starts_at.Statement.{statement}
+
+skip-requires : tie.Need-skip-requires
+skip-requires c κs = search needs
+
+starts-with-requires : tie.Need-starts-with-requires
+starts-with-requires c κs = search needs
+
+returns : tie.Need-returns
+returns c = c .starts-with .ensures ∙ ap (startsWith (c .before .before .before .before .args .p .now)) (c .before .skip .ensures)
+
+pub starts-at-spec : {M : Type 1} → statement M
+starts-at-spec = tie.close (tie.spec skip-requires starts-with-requires returns)

@@ -1,0 +1,109 @@
+// Words, literals and parts of a text. Any place may be named: past the end a text holds nothing.
+use sheet::Span;
+ghost use mathlib.Core.Path.{_≡_};
+ghost use Prim.Native.Nat.{_+_, _≤_};
+ghost use lib.ListN.{length, take, drop};
+ghost use Rattle.text.specs.Logic.{eql};
+ghost use Rattle.sheet.specs.Sheet.{startsWith};
+ghost use Rattle.sheet.specs.Reading.{wordLength, spanIn, byteOf};
+ghost use Rattle.reader.specs.Pieces.{wordSpan};
+
+// What stands behind the first k bytes of a text.
+fn skip(t: &[u8], k: usize) -> &[u8]
+    ensures { λ r. ⌜ now r ≡ drop k (now (t .entry)) ⌝ }
+{
+    if t.len() <= k {
+        return &t[..0];
+    }
+    &t[k..]
+}
+
+// The first k bytes of a text, or all of it where it has fewer.
+fn first(t: &[u8], k: usize) -> &[u8]
+    ensures { λ r. ⌜ now r ≡ take k (now (t .entry)) ⌝ }
+{
+    if t.len() <= k {
+        return t;
+    }
+    &t[..k]
+}
+
+// The bytes of a part of a text.
+pub fn span_in(t: &[u8], s: Span) -> &[u8]
+    ensures { λ r. ⌜ now r ≡ spanIn (now (t .entry)) s ⌝ }
+{
+    first(skip(t, s.start), s.len)
+}
+
+// Whether a text starts with p.
+fn starts_with(t: &[u8], p: &[u8]) -> bool
+    ensures { λ r. ⌜ r ≡ startsWith (now (p .entry)) (now (t .entry)) ⌝ }
+{
+    let mut i = 0;
+    while i < p.len() {
+        if t.len() <= i {
+            return false;
+        }
+        if t[i] != p[i] {
+            return false;
+        }
+        i += 1;
+    }
+    true
+}
+
+// Whether p stands at a place of a text.
+pub fn starts_at(t: &[u8], at: usize, p: &[u8]) -> bool
+    ensures { λ r. ⌜ r ≡ startsWith (now (p .entry)) (drop at (now (t .entry))) ⌝ }
+{
+    starts_with(skip(t, at), p)
+}
+
+// Whether two texts are equal.
+pub fn equals(a: &[u8], b: &[u8]) -> bool
+    ensures { λ r. ⌜ r ≡ eql (now (a .entry)) (now (b .entry)) ⌝ }
+{
+    if a.len() != b.len() {
+        return false;
+    }
+    starts_with(a, b)
+}
+
+// The first place from `at` on that holds a comma, or the end; `at` itself where it lies past the end.
+fn word_end(t: &[u8], at: usize) -> usize
+    ensures { λ r. ⌜ r ≡ at + wordLength (drop at (now (t .entry))) ⌝ }
+{
+    let mut i = at;
+    while i < t.len() {
+        if t[i] == b',' {
+            return i;
+        }
+        i += 1;
+    }
+    i
+}
+
+// The word at a place: the bytes to the next comma.
+pub fn word_at(t: &[u8], at: usize) -> Span
+    ensures { λ r. ⌜ r ≡ wordSpan at (drop at (now (t .entry))) ⌝ }
+{
+    Span {
+        start: at,
+        len: word_end(t, at) - at,
+    }
+}
+
+// The word k bytes behind another, which may lie a little past the end of the text.
+pub fn word_behind(t: &[u8], word: Span, k: usize) -> Span
+    requires { ⌜ word .start + word .len + k ≤ length (now t) + 64 ⌝ }
+    ensures { λ r. ⌜ r ≡ wordSpan (word .start + word .len + k) (drop (word .start + word .len + k) (now (t .entry))) ⌝ }
+{
+    word_at(t, word.start + word.len + k)
+}
+
+// The low byte of a number.
+pub fn low_byte(n: u32) -> u8
+    ensures { λ r. ⌜ r ≡ byteOf n ⌝ }
+{
+    (n % 0x100) as u8
+}

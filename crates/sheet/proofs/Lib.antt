@@ -1,0 +1,15 @@
+pub mod Leading
+pub mod Ranges
+pub mod ReadCode
+pub mod ReadCap
+pub mod ReadWarn
+pub mod ReadSentence
+pub mod Lines
+pub mod Lengths
+pub mod Contents
+pub mod WriteOne
+pub mod WriteAll
+pub mod ReadAll
+pub mod Demand3
+pub mod Samples3
+pub mod ReadLoop

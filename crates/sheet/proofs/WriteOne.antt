@@ -1,0 +1,96 @@
+-- One write: the bytes that it leaves in the buffer, its answer, and the start of the next.
+use mathlib.Core.Path.{_≡_, refl, sym, ap, _∙_}
+use mathlib.Core.Bool.{true, false}
+use mathlib.Core.List.{List, [], _++_, append-assoc}
+use Prim.Native.Nat.{ℕ, _+_, _≤_, _<_}
+use native.Mathlib.Omega.{arith}
+use native.Mathlib.Nat.{add-zero, add-assoc}
+use lib.ListN.{length, take, drop, length-append, length-take, length-drop, take-append-drop}
+use lib.Seq.{drop-append-add, take-at, drop-at, drop-drop, length-take-le}
+use borrow.Author.Tests.{leb-true, le-leb, lt-leb}
+use Rattle.text.specs.Buffer.{written}
+use Rattle.text.specs.Logic.{by-test, and-left, and-right}
+use Rattle.sheet.specs.declared.Wrote.the-variants.{End, OutOfRange, NoRoom}
+use Rattle.sheet.specs.Sheet.{Sheet, inRange}
+use Rattle.sheet.specs.Sentence.{sentence}
+use Rattle.sheet.specs.Answers.{hasRoom, isWritten, wrote, after}
+use Rattle.sheet.specs.Demand.{place}
+
+-- ---- bytes written into a buffer
+
+module _ (d : List ℕ) (at : ℕ) where
+  pub length-written : (s : List ℕ) → at + length s ≤ length d → length (written d at s) ≡ length d
+  unfolding written
+  length-written s h = simp (length-append, length-take, length-drop) (omega arith)
+
+  pub written-nil : written d at [] ≡ d
+  unfolding written
+  written-nil = rw add-zero (take-append-drop at d)
+
+  -- two writes one behind the other are one
+  pub written-then : (s t : List ℕ) → at + length s ≤ length d → written (written d at s) (at + length s) t ≡ written d at (s ++ t)
+  unfolding written
+  written-then s t h =
+      let p = take at d ++ s in
+      let r = drop (at + length s) d in
+      let l : length p ≡ at + length s = simp (length-append, length-take) (omega arith) in
+      let e : take at d ++ (s ++ r) ≡ p ++ r = sym (append-assoc (take at d) s r) in
+      let g : drop (at + length s + length t) (p ++ r) ≡ drop (at + length s + length t) d
+      = ap (λ (k : ℕ). drop (k + length t) (p ++ r)) (sym l) ∙ drop-append-add p r (length t) ∙ drop-drop (length t) (at + length s) d in
+      rw (e, take-at p r (at + length s) l, g) (simp (length-append, append-assoc, add-assoc))
+
+  -- what was written stands there
+  pub part-written : (s : List ℕ) → at ≤ length d → take (length s) (drop at (written d at s)) ≡ s
+  unfolding written
+  part-written s h =
+      rw (drop-at (take at d) (s ++ drop (at + length s) d) at (length-take-le at d h))
+      (take-at s (drop (at + length s) d) (length s) refl)
+
+-- ---- one write
+
+module _ (d : List ℕ) (at : ℕ) (x : Sheet) where
+  pub after-written : isWritten d at x ≡ true → after d at x ≡ written d at (sentence x)
+  unfolding after
+  after-written e = rw e
+
+  pub place-written : isWritten d at x ≡ true → place d at x ≡ at + length (sentence x)
+  unfolding place
+  place-written e = rw e
+
+  pub after-refused : isWritten d at x ≡ false → after d at x ≡ d
+  unfolding after
+  after-refused e = rw e
+
+  pub place-refused : isWritten d at x ≡ false → place d at x ≡ at
+  unfolding place
+  place-refused e = rw e
+
+  pub written-range : isWritten d at x ≡ true → inRange x ≡ true
+  unfolding isWritten
+  written-range e = and-left (inRange x) (hasRoom d at x) e
+
+  pub written-room : isWritten d at x ≡ true → at + length (sentence x) ≤ length d
+  unfolding isWritten
+  written-room e = leb-true (at + length (sentence x)) (length d) (and-right (inRange x) (hasRoom d at x) e)
+
+  -- behind the buffer's end nothing is written
+  pub past-refused : length d < at → isWritten d at x ≡ false
+  unfolding isWritten
+  past-refused h =
+      by-test (inRange x) (λ e. rw (isWritten, e) (lt-leb (at + length (sentence x)) (length d) (omega arith))) (λ e. rw (isWritten, e))
+
+  -- ---- the answer and the buffer by the cases of the ranges and the room
+
+  pub refuse-range : inRange x ≡ false → (wrote d at x ≡ OutOfRange) × (after d at x ≡ d)
+  unfolding wrote after isWritten
+  refuse-range e = (rw e, rw e)
+
+  pub refuse-room : inRange x ≡ true → length d < at + length (sentence x) → (wrote d at x ≡ NoRoom) × (after d at x ≡ d)
+  unfolding wrote after isWritten
+  refuse-room e h = let r = lt-leb (at + length (sentence x)) (length d) h in (rw (e, r), rw (e, r))
+
+  pub write-end :
+      inRange x ≡ true → at + length (sentence x) ≤ length d
+      → (wrote d at x ≡ End (at + length (sentence x))) × (after d at x ≡ written d at (sentence x))
+  unfolding wrote after isWritten
+  write-end e h = let r = le-leb (at + length (sentence x)) (length d) h in (rw (e, r), rw (e, r))
