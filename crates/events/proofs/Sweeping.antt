@@ -1,0 +1,59 @@
+-- Laws of a sweep, over entries of any number.
+use mathlib.Core.Path.{_≡_, refl, sym, _∙_, ap}
+use mathlib.Core.List.{List, [], _∷_, _++_, append-nil}
+use Prim.Native.Nat.{ℕ, zero, suc, _+_, _≤_, _<_}
+use native.Mathlib.Numerals.{add-one}
+use native.Mathlib.Omega.{arith}
+use lib.ListN.{length, getD, take, drop, set, drop-of-length-le}
+use lib.Seq.{drop-cons, take-suc, take-all, length-take-le, set-at, getD-at, append-snoc}
+use Rattle.events.specs.declared.Entry.{Entry}
+use Rattle.events.specs.Table.{blank, swept, sweptAll}
+
+module _ (time : ℕ) where
+  pub swept-length : (es : List Entry) → length (sweptAll time es) ≡ length es
+  unfolding sweptAll
+  swept-length [] = refl
+  swept-length (e ∷ es) = ap suc (swept-length es)
+
+  -- each entry is swept in its place
+  pub swept-at : (es : List Entry) (k : ℕ) → getD (sweptAll time es) k blank ≡ swept time (getD es k blank)
+  unfolding sweptAll
+  swept-at [] k = refl
+  swept-at (e ∷ es) zero = refl
+  swept-at (e ∷ es) (suc k) = swept-at es k
+
+  swept-append : (es fs : List Entry) → sweptAll time (es ++ fs) ≡ sweptAll time es ++ sweptAll time fs
+  unfolding sweptAll
+  swept-append [] fs = refl
+  swept-append (e ∷ es) fs = ap (λ (r : List Entry). swept time e ∷ r) (swept-append es fs)
+
+-- with the first i entries swept
+abbrev pub sweptTo : ℕ → List Entry → ℕ → List Entry
+sweptTo time es i = sweptAll time (take i es) ++ drop i es
+
+module _ (time : ℕ) (es : List Entry) where
+  pub swept-to-none : es ≡ sweptTo time es 0
+  unfolding sweptAll
+  swept-to-none = refl
+
+  pub swept-to-all : (i : ℕ) → length es ≤ i → sweptTo time es i ≡ sweptAll time es
+  swept-to-all i h = rw (drop-of-length-le es h, take-all i es h) (append-nil _)
+
+  module _ (i : ℕ) (h : i < length es) where
+    at-place : length (sweptAll time (take i es)) ≡ i
+    at-place = swept-length time (take i es) ∙ length-take-le i es (omega arith)
+
+    -- the next entry is as it was
+    next-at : getD (sweptTo time es i) i blank ≡ getD es i blank
+    next-at = rw (drop-cons es i blank h) (getD-at (sweptAll time (take i es)) (getD es i blank) (drop (suc i) es) blank i at-place)
+
+    next-set : set (sweptTo time es i) i (swept time (getD es i blank)) ≡ sweptTo time es (i + 1)
+    unfolding sweptAll
+    next-set =
+        rw (add-one, drop-cons es i blank h, take-suc es i blank h, swept-append time)
+        (set-at (sweptAll time (take i es)) (getD es i blank) (drop (suc i) es) (swept time (getD es i blank)) i at-place
+        ∙ sym (append-snoc (sweptAll time (take i es)) (swept time (getD es i blank)) (drop (suc i) es)))
+
+    -- one entry more
+    pub swept-to-next : (fs : List Entry) (x : Entry) → fs ≡ sweptTo time es i → x ≡ swept time (getD fs i blank) → set fs i x ≡ sweptTo time es (i + 1)
+    swept-to-next fs x a b = rw (b, a, next-at) next-set

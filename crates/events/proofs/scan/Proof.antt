@@ -1,0 +1,67 @@
+-- `scan`: the invariant says that `places` is what is found among the first i entries.
+use Rattle.events.proofs.Search.{scanned-next}
+use mathlib.Core.Path.{_≡_, _∙_}
+use Prim.Native.Nat.{_≤_, _-_, _<_}
+use borrow.Author.Needs.{needs}
+use lib.ListN.{length, take, length-map}
+use Rattle.events.specs.Steps.{scanned}
+use Rattle.events.proofs.Search.{scanned-none, scanned-all}
+use Rattle.events.proofs.scan.Statement.{statement}
+use Rattle.events.proofs.scan.Tie as tie
+
+abbrev Inv-loop : tie.InvT-loop
+Inv-loop key event table places₀ i₀ places i = (i ≤ 64) × (places ≡ scanned key event (take i (table .entries)))
+
+abbrev μ-loop : tie.MeasureT-loop
+μ-loop key event table places₀ i₀ places i = 64 - i
+
+long : (s : tie.Start Inv-loop μ-loop) → length (s .args .t1 .entries) ≡ 64
+long s = simp length-map at (s .good .0 .1 .1 .0 .1 .0 .1)
+
+no-places-requires : tie.Need-no-places-requires Inv-loop μ-loop
+no-places-requires c κs = search needs
+
+loop-holds : tie.Need-loop-holds Inv-loop μ-loop
+loop-holds c = (search needs, c .«no-places» .ensures ∙ scanned-none (c .before .args .key) (c .before .args .event) (c .before .args .t1 .entries))
+
+mul-entry : tie.Need-mul-entry Inv-loop μ-loop
+mul-entry c = search needs
+
+element-copy-out-entry : tie.Need-element-copy-out-entry Inv-loop μ-loop
+element-copy-out-entry c = search needs
+
+scan-step-requires : tie.Need-scan-step-requires Inv-loop μ-loop
+scan-step-requires c κs = search needs
+
+add-i : tie.Need-add-i Inv-loop μ-loop
+add-i c = search needs
+
+loop-less : tie.Need-loop-less Inv-loop μ-loop
+loop-less c = search needs
+
+loop-again : tie.Need-loop-again Inv-loop μ-loop
+loop-again c = let s = c .before .before .before .before .before in
+    let at = c .before .before .before .loop in
+    let below : at .i < length (s .args .t1 .entries) = rw (long s) (c .before .before .«loop-test» .taken) in
+    (search needs, scanned-next (s .args .key) (s .args .event) (s .args .t1 .entries) (at .i) below _ _ (at .inv .1) (c .«scan-step» .ensures))
+
+returns : tie.Need-returns Inv-loop μ-loop
+returns c = let s = c .before .before .before in
+    let at = c .before .loop in
+    scanned-all (s .args .key) (s .args .event) (s .args .t1 .entries) (at .i) (rw (long s) (c .«loop-test» .left)) _ (at .inv .1)
+
+pub scan-spec : {M : Type 1} → statement M
+scan-spec =
+    tie.close
+    (tie.spec
+    Inv-loop
+    μ-loop
+    no-places-requires
+    loop-holds
+    mul-entry
+    element-copy-out-entry
+    scan-step-requires
+    add-i
+    loop-less
+    loop-again
+    returns)

@@ -1,0 +1,90 @@
+-- What the functions of src/ hand each other on the way to `received`: the checks before the table, what one pass over the entries finds, and what is then stored.
+use mathlib.Core.Bool.{Bool, cond, not}
+use mathlib.Core.List.{List}
+use Prim.Native.Nat.{ℕ, _+_}
+use lib.Dec.{ltb}
+use lib.ListN.{length, getD, set}
+use Rattle.packet.specs.declared.Fields.{Fields}
+use Rattle.packet.specs.declared.Packet.{Packet}
+use Rattle.packet.specs.declared.Packet.the-variants as packet
+use Rattle.events.specs.declared.Entry.{Entry}
+use Rattle.events.specs.declared.Receipt.{Receipt}
+use Rattle.events.specs.declared.Receipt.the-variants.{Accepted, Late, UnknownKey, Unverified, NotAbove, Full, Refused}
+use Rattle.events.specs.declared.Received.{Received}
+use Rattle.events.specs.declared.checks.Checked.{Checked}
+use Rattle.events.specs.declared.checks.Checked.the-variants.{Passed, Stopped}
+use Rattle.events.specs.declared.plans.Places.{Places}
+use Rattle.events.specs.declared.plans.Plan.{Plan}
+use Rattle.events.specs.Table.{isOf, isFree, blank, placeOf, freePlace, fresh, isLate, isListed, Outcome, outcome}
+
+-- ---- the checks before the table: the entry that the packet makes for a new event, or the refusal
+
+unfoldable pub checkedFields : List ℕ → Bool → ℕ → Fields → Checked
+checkedFields keys verdict clock f =
+    cond (isLate clock) (Stopped Late)
+    (cond (not (isListed keys (f .key))) (Stopped UnknownKey)
+    (cond (not verdict) (Stopped Unverified)
+    (Passed (fresh clock f))))
+
+abbrev pub checked : List ℕ → Bool → ℕ → Packet → Checked
+checked keys verdict clock (packet.Refused e) = Stopped (Refused e)
+checked keys verdict clock (packet.Alert f) = checkedFields keys verdict clock f
+
+-- ---- one pass over the entries
+
+-- the first used entry of an event and its place, and the lowest free place; a place is the number of entries where there is none
+abbrev pub scanned : ℕ → ℕ → List Entry → Places
+scanned key event es = record { known = placeOf key event es; free = freePlace es; entry = getD es (placeOf key event es) blank }
+
+-- the first place that passes among i + 1 entries, from the one among i and whether the next entry passes
+abbrev pub nextPlace : ℕ → ℕ → Bool → ℕ
+nextPlace place i hit = cond (ltb place i) place (cond hit i (i + 1))
+
+abbrev pub nextEntry : ℕ → ℕ → Bool → Entry → Entry → Entry
+nextEntry place i hit old e = cond (ltb place i) old (cond hit e blank)
+
+abbrev pub scanStep : Places → Entry → ℕ → ℕ → ℕ → Places
+scanStep s e i key event = record {
+  known = nextPlace (s .known) i (isOf key event e);
+  free = nextPlace (s .free) i (isFree e);
+  entry = nextEntry (s .known) i (isOf key event e) (s .entry) e;
+}
+
+-- ---- what is stored
+
+-- an event's entry after a packet that makes the entry `new` for a new event
+abbrev pub merged : Entry → Entry → Entry
+merged e new = record {
+  used = e .used;
+  key = e .key;
+  event = e .event;
+  sequence = new .sequence;
+  cancelled = new .cancelled;
+  «keep_until» = cond (ltb (e .«keep_until») (new .«keep_until»)) (new .«keep_until») (e .«keep_until»);
+}
+
+abbrev pub storing : ℕ → Entry → Plan
+storing i e = record { receipt = Accepted; at = i; entry = e }
+
+-- a refusal stores nothing: its place is past the entries
+abbrev pub refusing : ℕ → Receipt → Plan
+refusing n r = record { receipt = r; at = n; entry = blank }
+
+-- among n entries
+unfoldable pub planned : Places → ℕ → Entry → Plan
+planned s n new =
+    cond (ltb (s .known) n)
+    (cond (ltb (s .entry .sequence) (new .sequence)) (storing (s .known) (merged (s .entry) new)) (refusing n NotAbove))
+    (cond (ltb (s .free) n) (storing (s .free) new) (refusing n Full))
+
+-- an entry stored past the entries changes nothing
+unfoldable pub carriedOut : Plan → List Entry → Outcome
+carriedOut p es = outcome (p .receipt) (set es (p .at) (p .entry))
+
+-- a packet that passed every earlier check
+unfoldable pub accepting : Entry → List Entry → Outcome
+accepting new es = carriedOut (planned (scanned (new .key) (new .event) es) (length es) new) es
+
+-- ---- an outcome, as a value of the table of 64
+abbrev pub ofOutcome : Outcome → Received
+ofOutcome o = record { receipt = o .receipt; table = record { entries = o .entries } }

@@ -1,0 +1,107 @@
+// The rules on one entry, by value.
+use crate::Entry;
+use packet::Fields;
+ghost use mathlib.Core.Path.{_≡_};
+ghost use mathlib.Core.Bool.{cond};
+ghost use Prim.Native.Nat.{_≤_};
+ghost use lib.Dec.{ltb};
+ghost use Rattle.events.specs.Table.{isOf, isFree, blank, fresh, isStale, swept};
+ghost use Rattle.events.specs.Steps.{merged};
+
+// Whether an entry is a used one of an event.
+pub fn is_of(key: u32, event: u32, entry: Entry) -> bool
+    ensures { λ r. ⌜ r ≡ isOf key event entry ⌝ }
+{
+    entry.used & (entry.key == key) & (entry.event == event)
+}
+
+// Whether an entry is free.
+pub fn is_free(entry: Entry) -> bool
+    ensures { λ r. ⌜ r ≡ isFree entry ⌝ }
+{
+    !entry.used
+}
+
+// A free entry, with 0 in its other fields.
+pub fn blank_entry() -> Entry
+    ensures { λ r. ⌜ r ≡ blank ⌝ }
+{
+    Entry {
+        used: false,
+        key: 0,
+        event: 0,
+        sequence: 0,
+        cancelled: false,
+        keep_until: 0,
+    }
+}
+
+// The entry that a packet makes for a new event. The last clock is 2^64 - 65,536, so that the sum fits.
+pub fn fresh_entry(clock: u64, fields: Fields) -> Entry
+    requires { ⌜ clock ≤ 18_446_744_073_709_486_080 ⌝ }
+    ensures { λ r. ⌜ r ≡ fresh clock fields ⌝ }
+{
+    Entry {
+        used: true,
+        key: fields.key,
+        event: fields.event,
+        sequence: fields.sequence,
+        cancelled: fields.cancel,
+        keep_until: clock + (fields.ttl as u64),
+    }
+}
+
+// Whether a packet's number is above the stored one; `new` is the entry that the packet makes for a new event.
+pub fn is_above(entry: Entry, new: Entry) -> bool
+    ensures { λ r. ⌜ r ≡ ltb (entry .sequence) (new .sequence) ⌝ }
+{
+    entry.sequence < new.sequence
+}
+
+// The later of two times.
+fn later(a: u64, b: u64) -> u64
+    ensures { λ r. ⌜ r ≡ cond (ltb a b) b a ⌝ }
+{
+    if a < b {
+        return b;
+    }
+    a
+}
+
+// An event's entry after a packet that makes the entry `new` for a new event.
+pub fn merge(entry: Entry, new: Entry) -> Entry
+    ensures { λ r. ⌜ r ≡ merged entry new ⌝ }
+{
+    Entry {
+        used: entry.used,
+        key: entry.key,
+        event: entry.event,
+        sequence: new.sequence,
+        cancelled: new.cancelled,
+        keep_until: later(entry.keep_until, new.keep_until),
+    }
+}
+
+// Whether an entry is a used one whose keep-until is below a time.
+pub fn is_stale(time: u64, entry: Entry) -> bool
+    ensures { λ r. ⌜ r ≡ isStale time entry ⌝ }
+{
+    entry.used & (entry.keep_until < time)
+}
+
+// An entry after a sweep: only the used mark may change.
+pub fn sweep_entry(time: u64, entry: Entry) -> Entry
+    ensures { λ r. ⌜ r ≡ swept time entry ⌝ }
+{
+    if is_stale(time, entry) {
+        return Entry {
+            used: false,
+            key: entry.key,
+            event: entry.event,
+            sequence: entry.sequence,
+            cancelled: entry.cancelled,
+            keep_until: entry.keep_until,
+        };
+    }
+    entry
+}

@@ -1,0 +1,120 @@
+// The event table: which packets are accepted, and what the table then holds.
+use packet::Fault;
+ghost use mathlib.Core.Path.{_≡_};
+ghost use Rattle.events.specs.Table.{positionOf, received, sweptAll};
+ghost use Rattle.events.specs.Steps.{scanned, accepting, ofOutcome};
+
+mod checks;
+mod entries;
+mod plans;
+
+use checks::Checked;
+use plans::Places;
+
+// An entry of the event table.
+pub struct Entry {
+    pub used: bool,
+    pub key: u32,
+    pub event: u32,
+    pub sequence: u16,
+    pub cancelled: bool,
+    pub keep_until: u64,
+}
+
+// A table of 64 entries, by value.
+pub struct Table {
+    pub entries: [Entry; 64],
+}
+
+// The answer to a packet that was received.
+pub enum Receipt {
+    Accepted,
+    Late,
+    UnknownKey,
+    Unverified,
+    NotAbove,
+    Full,
+    Refused(Fault),
+}
+
+// The answer, and the table afterwards.
+pub struct Received {
+    pub receipt: Receipt,
+    pub table: Table,
+}
+
+// Where an event's first used entry stands.
+pub enum Position {
+    At(usize),
+    Nowhere,
+}
+
+// Where an event's first used entry stands.
+pub fn find(table: Table, key: u32, event: u32) -> Position
+    ensures { λ r. ⌜ r ≡ positionOf key event (table .entries) ⌝ }
+{
+    let places = scan(table, key, event);
+    if places.known < 64 {
+        return Position::At(places.known);
+    }
+    Position::Nowhere
+}
+
+// A packet is received. `verdict` is the signature chip's, `keys` are the key ids that are listened to.
+pub fn receive(table: Table, packet: &[u8], keys: &[u32], verdict: bool, clock: u64) -> Received
+    ensures { λ r. ⌜ r ≡ ofOutcome (received (table .entries) (now (packet .entry)) (now (keys .entry)) verdict clock) ⌝ }
+{
+    let checked = checks::check(packet, keys, verdict, clock);
+    match checked {
+        Checked::Stopped(receipt) => Received { receipt, table },
+        Checked::Passed(entry) => accept(table, entry),
+    }
+}
+
+// Frees the used entries whose keep-until is below a time.
+pub fn sweep(table: Table, time: u64) -> Table
+    ensures { λ r. ⌜ r .entries ≡ sweptAll time (table .entries) ⌝ }
+{
+    let mut next = table;
+    let mut i: usize = 0;
+    while i < 64 {
+        let entry = next.entries[i];
+        next.entries[i] = entries::sweep_entry(time, entry);
+        i += 1;
+    }
+    next
+}
+
+// One pass over the entries: an event's first used entry, and the lowest free one.
+fn scan(table: Table, key: u32, event: u32) -> Places
+    ensures { λ r. ⌜ r ≡ scanned key event (table .entries) ⌝ }
+{
+    let mut places = plans::no_places();
+    let mut i: usize = 0;
+    while i < 64 {
+        let entry = table.entries[i];
+        places = plans::scan_step(places, entry, i, key, event);
+        i += 1;
+    }
+    places
+}
+
+// A packet that passed every earlier check; `new` is the entry that it makes for a new event.
+fn accept(table: Table, new: Entry) -> Received
+    ensures { λ r. ⌜ r ≡ ofOutcome (accepting new (table .entries)) ⌝ }
+{
+    let places = scan(table, new.key, new.event);
+    let plan = plans::decide(places, 64, new);
+    let receipt = plan.receipt;
+    let at = plan.at;
+    let entry = plan.entry;
+    if at < 64 {
+        let mut next = table;
+        next.entries[at] = entry;
+        return Received {
+            receipt,
+            table: next,
+        };
+    }
+    Received { receipt, table }
+}

@@ -1,0 +1,71 @@
+-- `number_at` meets its contract. The loop's invariant: `n` is the number of the first `i` bytes, and below 256 ^ i. The measure is how many bytes are left.
+use mathlib.Core.Path.{_≡_, sym, ap, _∙_}
+use Prim.Native.Nat.{ℕ, _+_, _-_, _*_, _^_, _≤_, _<_}
+use native.Mathlib.Omega.{arith}
+use lib.ListN.{getD}
+use Rattle.packet.specs.BigEndian.{numberOf}
+use Rattle.packet.proofs.Numbers.{number-none, number-more, more-lt, more-fits, times-fits, number-whole}
+use Rattle.packet.proofs.bytes.number_at.Statement.{statement}
+use Rattle.packet.proofs.bytes.number_at.Tie as tie
+
+abbrev Inv-loop : tie.InvT-loop
+Inv-loop p at width n₀ i₀ n i = (i ≤ width) × (n ≡ numberOf i at p) × (n < 256 ^ i)
+
+abbrev μ-loop : tie.MeasureT-loop
+μ-loop p at width n₀ i₀ n i = width - i
+
+loop-holds : tie.Need-loop-holds Inv-loop μ-loop
+loop-holds c = (omega arith, sym (number-none _ _), omega arith)
+
+mul-n : tie.Need-mul-n Inv-loop μ-loop
+mul-n c = times-fits _ _ (c .before .loop .inv .2) (omega arith)
+
+add-n : tie.Need-add-n Inv-loop μ-loop
+add-n c = omega arith
+
+shared-slice-read-n : tie.Need-shared-slice-read-n Inv-loop μ-loop
+shared-slice-read-n c = omega arith
+
+cast-n : tie.Need-cast-n Inv-loop μ-loop
+cast-n c = omega (arith, c .shared-slice-known .given (c .before .before .before .args .at + c .before .before .loop .i))
+
+add-n-2 : tie.Need-add-n-2 Inv-loop μ-loop
+add-n-2 c =
+    let place = c .before .before .before .args .at + c .before .before .loop .i in
+    more-fits _ _ _ (c .before .before .loop .inv .2) (omega (arith, c .shared-slice-known .given place)) (omega arith)
+
+add-i : tie.Need-add-i Inv-loop μ-loop
+add-i c = omega arith
+
+loop-less : tie.Need-loop-less Inv-loop μ-loop
+loop-less c = omega arith
+
+loop-again : tie.Need-loop-again Inv-loop μ-loop
+loop-again c =
+    let inv = c .before .before .loop .inv in
+    let place = c .before .before .before .args .at + c .before .before .loop .i in
+    let byte = getD (c .before .before .before .args .p .now) place 0 in (
+      omega arith,
+      ap (λ (n : ℕ). n * 256 + byte) (inv .1) ∙ sym (number-more _ _ _ (omega arith)),
+      more-lt _ _ _ (inv .2) (omega (arith, c .shared-slice-known .given place)),
+    )
+
+returns : tie.Need-returns Inv-loop μ-loop
+returns c = let inv = c .before .loop .inv in number-whole _ _ _ _ _ (inv .0) (c .loop-test .left) (inv .1) (inv .2)
+
+pub number-at-spec : {M : Type 1} → statement M
+number-at-spec =
+    tie.close
+    (tie.spec
+    Inv-loop
+    μ-loop
+    loop-holds
+    mul-n
+    add-n
+    shared-slice-read-n
+    cast-n
+    add-n-2
+    add-i
+    loop-less
+    loop-again
+    returns)

@@ -1,0 +1,35 @@
+-- `sheet_of` meets its contract: each fact is a field, and the lasting time fits 32 bits.
+use borrow.Author.Needs.{needs}
+use Rattle.packet.specs.Packet.{sheetOfFields}
+use Rattle.packet.proofs.Answers.{lasting-fits}
+use Rattle.packet.proofs.sheet_of.Statement.{statement}
+use Rattle.packet.proofs.sheet_of.Tie as tie
+
+lasting-requires : tie.Need-lasting-requires
+lasting-requires c κs = search needs
+
+cast-t3 : tie.Need-cast-t3
+cast-t3 c = lasting-fits _ _ (c .before .pre) (c .lasting .ensures)
+
+returns : tie.Need-returns
+unfolding sheetOfFields
+returns c = let f = c .before .args .f in
+    λ i. record {
+      urgent = f .urgent;
+      update = f .update;
+      cancel = f .cancel;
+      test = f .test;
+      event = f .event;
+      number = f .sequence;
+      origin = f .key;
+      lasting = c .lasting .ensures i;
+      hazard = f .«hazard_major»;
+      kind = f .«hazard_minor»;
+      urgency = f .urgency;
+      severity = f .severity;
+      certainty = f .certainty;
+      response = f .response;
+    }
+
+pub sheet-of-spec : {M : Type 1} → statement M
+sheet-of-spec = tie.close (tie.spec lasting-requires cast-t3 returns)

@@ -1,0 +1,229 @@
+// Feeds packets to an event table, and writes each answer and the table.
+// Standard input is a run of records: a letter ('R' to receive, 'S' to sweep, 'T' to write the table), a clock (8 bytes), a verdict
+// (1 byte), a length (2 bytes) and a packet. tests/receive.py writes the records and, by the independent model, the stored output.
+use coordinates::Place;
+use events::Entry;
+use events::Receipt;
+use events::Table;
+use libc::STDIN_FILENO;
+use libc::STDOUT_FILENO;
+use packet::Fault;
+use packet::PacketPlace;
+use packet::PacketSheet;
+use sheet::Wrote;
+ghost use Prim.Native.Nat.{_≤_};
+ghost use lib.ListN.{length};
+
+const KEYS: [u32; 3] = [21, 4294967295, 7];
+
+// The length of a record's front.
+const FRONT: usize = 12;
+
+fn print(text: &[u8]) {
+    io::write_all(STDOUT_FILENO, text);
+}
+
+fn print_number(n: u64) {
+    io::print_decimal(STDOUT_FILENO, n);
+}
+
+fn print_spaced(n: u64) {
+    print(b" ");
+    print_number(n);
+}
+
+fn print_refusal(number: u64) {
+    print(b"refused ");
+    print_number(number);
+    print(b" at 0\n");
+}
+
+fn fault_number(fault: Fault) -> u64 {
+    match fault {
+        Fault::Short => 1,
+        Fault::NotWarn => 2,
+        Fault::Version => 3,
+        Fault::NotAlert => 4,
+        Fault::Long => 5,
+        Fault::Range => 6,
+        Fault::Lasting => 7,
+    }
+}
+
+fn print_receipt(receipt: Receipt) {
+    match receipt {
+        Receipt::Accepted => print(b"accepted\n"),
+        Receipt::Late => print_refusal(12),
+        Receipt::UnknownKey => print_refusal(8),
+        Receipt::Unverified => print_refusal(9),
+        Receipt::NotAbove => print_refusal(10),
+        Receipt::Full => print_refusal(11),
+        Receipt::Refused(fault) => print_refusal(fault_number(fault)),
+    }
+}
+
+// The packet's sentence, or its refusal.
+fn print_sentence(bytes: &[u8]) {
+    let drawn = packet::packet_sheet(bytes);
+    match drawn {
+        PacketSheet::Sheet(facts) => {
+            let mut own = [0u8; 1024];
+            let answer = readback::write_warn(&mut own, 0, facts);
+            print_written(&own, answer);
+        }
+        PacketSheet::Refused(fault) => print_refusal(fault_number(fault)),
+    }
+}
+
+fn print_written(own: &[u8], answer: Wrote) {
+    let Wrote::End(end) = answer else {
+        print(b"not written\n");
+        return;
+    };
+    if end <= own.len() {
+        print(&own[..end]);
+    }
+}
+
+// Whether the packet's circle holds a place a little north of Kyoto, and one that is out of range.
+fn print_place(bytes: &[u8], place: Place) {
+    let answer = packet::packet_place(bytes, place);
+    match answer {
+        PacketPlace::Inside => print(b"inside\n"),
+        PacketPlace::Outside => print(b"outside\n"),
+        PacketPlace::OutOfRange => print_refusal(6),
+        PacketPlace::Refused(fault) => print_refusal(fault_number(fault)),
+    }
+}
+
+fn print_entry(i: usize, entry: Entry) {
+    print_number(i as u64);
+    if entry.used {
+        print(b" used");
+    } else {
+        print(b" free");
+    }
+    print_spaced(entry.key as u64);
+    print_spaced(entry.event as u64);
+    print_spaced(entry.sequence as u64);
+    if entry.cancelled {
+        print(b" cancelled");
+    }
+    print_spaced(entry.keep_until);
+    print(b"\n");
+}
+
+fn print_table(table: Table) {
+    let mut i = 0;
+    while i < 64 {
+        let entry = table.entries[i];
+        if entry.used | (0 < entry.keep_until) {
+            print_entry(i, entry);
+        }
+        i += 1;
+    }
+}
+
+fn print_packet(bytes: &[u8]) {
+    print_sentence(bytes);
+    print_place(
+        bytes,
+        Place {
+            lat: 351000000,
+            lon: 1357000000,
+        },
+    );
+    print_place(
+        bytes,
+        Place {
+            lat: 900000001,
+            lon: 0,
+        },
+    );
+}
+
+fn take_record(table: Table, kind: u8, clock: u64, verdict: bool, bytes: &[u8]) -> Table {
+    if kind == b'S' {
+        return events::sweep(table, clock);
+    }
+    if kind == b'T' {
+        print_table(table);
+        return table;
+    }
+    let received = events::receive(table, bytes, &KEYS, verdict, clock);
+    let receipt = received.receipt;
+    print_receipt(receipt);
+    print_packet(bytes);
+    let next = received.table;
+    next
+}
+
+// The byte behind `i` bytes from `at` on; 0 past the end.
+fn byte_at(input: &[u8], at: usize, i: usize) -> u64
+    ensures { λ r. ⌜ r ≤ 255 ⌝ }
+{
+    if input.len() <= at {
+        return 0;
+    }
+    if input.len() - at <= i {
+        return 0;
+    }
+    input[at + i] as u64
+}
+
+// The big-endian number of some bytes of a record's front.
+fn number_at(input: &[u8], at: usize, width: usize) -> u64 {
+    let mut value: u64 = 0;
+    let mut i = 0;
+    while i < width {
+        value = value % 72057594037927936 * 256 + byte_at(input, at, i);
+        i += 1;
+    }
+    value
+}
+
+fn empty_table() -> Table {
+    let blank = Entry {
+        used: false,
+        key: 0,
+        event: 0,
+        sequence: 0,
+        cancelled: false,
+        keep_until: 0,
+    };
+    Table {
+        entries: [blank; 64],
+    }
+}
+
+fn run(input: &[u8]) {
+    let mut table = empty_table();
+    let mut at = 0;
+    while FRONT <= input.len() - at {
+        let kind = input[at];
+        let clock = number_at(input, at + 1, 8);
+        let verdict = input[at + 9] == 1;
+        let start = at + FRONT;
+        let end = record_end(input, start, number_at(input, at + 10, 2));
+        table = take_record(table, kind, clock, verdict, &input[start..end]);
+        at = end;
+    }
+}
+
+// Where a packet of some length from `start` on ends; at the end of the input where it has fewer bytes.
+fn record_end(input: &[u8], start: usize, len: u64) -> usize
+    requires { ⌜ start ≤ length (now input) ⌝ }
+    ensures { λ r. ⌜ (start ≤ r) × (r ≤ length (now (input .entry))) ⌝ }
+{
+    let n = (len % 65536) as usize;
+    if input.len() - start < n {
+        return input.len();
+    }
+    start + n
+}
+
+fn main() {
+    let mut buffer = [0u8; 262144];
+    let n = io::read_full(STDIN_FILENO, &mut buffer);
+    run(&buffer[..n]);
+}
