@@ -85,7 +85,7 @@ fn print_written(own: &[u8], answer: Wrote) {
     }
 }
 
-// Whether the packet's circle holds a place a little north of Kyoto, and one that is out of range.
+// Whether the packet's circle holds a place.
 fn print_place(bytes: &[u8], place: Place) {
     let answer = packet::packet_place(bytes, place);
     match answer {
@@ -124,6 +124,7 @@ fn print_table(table: Table) {
     }
 }
 
+// The packet's sentence, and its answers for a place near the sound packets' circles and for one out of range.
 fn print_packet(bytes: &[u8]) {
     print_sentence(bytes);
     print_place(
