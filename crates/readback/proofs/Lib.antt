@@ -4,7 +4,6 @@ pub mod Room
 pub mod Units
 pub mod Hash
 pub mod Letters
-pub mod Same
 pub mod Groups
 pub mod Turns
 pub mod CodeTable

@@ -11,7 +11,8 @@ use lib.ListN.{length, getD, drop, length-drop, drop-of-length-le}
 use lib.Seq.{drop-cons}
 use borrow.Author.Tests.{le-leb, lt-leb}
 use Rattle.text.specs.Ascii.{ascii}
-use Rattle.sheet.specs.Sheet.{isNameByte, allNameBytes, startsWith, holdsCdataEnd, isName}
+use Rattle.text.specs.Parts.{startsWith}
+use Rattle.sheet.specs.Sheet.{isNameByte, allNameBytes, holdsCdataEnd, isName}
 
 and-false : (a : Bool) → a && false ≡ false
 and-false true = refl

@@ -5,7 +5,6 @@ ghost use mathlib.Core.List.{[], _∷_};
 ghost use Prim.Native.Nat.{_+_, _≤_, _<_};
 ghost use lib.ListN.{length};
 ghost use Rattle.text.specs.Buffer.{Put};
-ghost use Rattle.text.specs.Logic.{eql};
 ghost use Rattle.words.specs.Words.{word, spaced};
 ghost use Rattle.words.specs.Reading.{codeOf};
 
@@ -134,23 +133,6 @@ fn candidate(word: &[u8]) -> usize
     HASHED[n - 3][(first + 4 * second + last) % 18]
 }
 
-// Whether two texts are equal.
-fn same(a: &[u8], b: &[u8]) -> bool
-    ensures { λ r. ⌜ r ≡ eql (now (a .entry)) (now (b .entry)) ⌝ }
-{
-    if a.len() != b.len() {
-        return false;
-    }
-    let mut i = 0;
-    while i < a.len() {
-        if a[i] != b[i] {
-            return false;
-        }
-        i += 1;
-    }
-    true
-}
-
 // The code of a word; UNKNOWN where it is none of the words.
 pub fn code_of(word: &[u8]) -> usize
     ensures { λ r. ⌜ r ≡ codeOf (now (word .entry)) ⌝ }
@@ -158,7 +140,7 @@ pub fn code_of(word: &[u8]) -> usize
     let w = candidate(word);
     let start = STARTS[w] + 1;
     let end = STARTS[w + 1];
-    if same(word, &TEXT[start..end]) {
+    if text::equals(word, &TEXT[start..end]) {
         return w;
     }
     UNKNOWN

@@ -10,7 +10,8 @@ ghost use lib.ListN.{length, drop};
 ghost use Rattle.text.specs.Ascii.{ascii};
 ghost use Rattle.words.specs.Duration.{isLasting};
 ghost use Rattle.sheet.specs.declared.Parts.the-variants.{One};
-ghost use Rattle.sheet.specs.Sheet.{cap, warn, isNameByte, startsWith, isName, isLastingTime, isParts, inRange};
+ghost use Rattle.text.specs.Parts.{startsWith};
+ghost use Rattle.sheet.specs.Sheet.{cap, warn, isNameByte, isName, isLastingTime, isParts, inRange};
 
 // The longest lasting time, in seconds: 365 days.
 const LONGEST_TIME: u32 = 31_536_000;

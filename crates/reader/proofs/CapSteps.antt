@@ -14,7 +14,7 @@ use Rattle.sheet.specs.declared.Parts.the-variants.{Nothing, One}
 use Rattle.sheet.specs.declared.CapFacts.{CapFacts}
 use Rattle.sheet.specs.declared.Span.{Span}
 use Rattle.sheet.specs.declared.Found.the-variants as found
-use Rattle.sheet.specs.Sheet.{startsWith}
+use Rattle.text.specs.Parts.{startsWith}
 use Rattle.sheet.specs.Reading.{messageOf, statusOf, scopeOf, urgencyOf, severityOf, certaintyOf, fromMessage, fromStatus, fromScope, fromSender, fromName, fromParts, senderAt, nameAt, fromNumber, fromTotal, fromUrgency, fromSeverity, fromCertainty, fromLasting, lastingOf, partOf, partsOf, capOf, spanIn, byteOf}
 use Rattle.reader.specs.Pieces.{wordSpan, capAt, From}
 use Rattle.reader.proofs.Places.{numbers, durations, from-here, from-on, word-place, from-word, from-behind, word-in, heard-value, from-heard-on}

@@ -18,7 +18,8 @@ use Rattle.sheet.specs.declared.Found.the-variants as found
 use Rattle.sheet.specs.declared.Line.the-variants as line
 use Rattle.sheet.specs.declared.Wrote.{Wrote}
 use Rattle.sheet.specs.declared.Wrote.the-variants.{End, OutOfRange, NoRoom}
-use Rattle.sheet.specs.Sheet.{Sheet, cap, warn, startsWith, inRange}
+use Rattle.text.specs.Parts.{startsWith}
+use Rattle.sheet.specs.Sheet.{Sheet, cap, warn, inRange}
 use Rattle.sheet.specs.Sentence.{sentence}
 use Rattle.sheet.specs.Reading.{warnOf, foundAt, spanIn, sheetIn, sheetOf, isLine, lineAt}
 use Rattle.sheet.specs.Answers.{wrote, after}

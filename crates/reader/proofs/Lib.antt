@@ -1,4 +1,3 @@
-pub mod Texts
 pub mod Words
 pub mod Choices
 pub mod Places

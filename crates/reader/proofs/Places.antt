@@ -16,7 +16,7 @@ use Rattle.words.specs.declared.Heard.{Heard}
 use Rattle.words.specs.Reading.{numberAt, durationAt}
 use Rattle.words.proofs.Steps.{heard, number-at-within, number-at-shift, duration-at-within, duration-at-shift}
 use Rattle.sheet.specs.declared.Span.{Span}
-use Rattle.sheet.specs.Sheet.{startsWith}
+use Rattle.text.specs.Parts.{startsWith}
 use Rattle.sheet.specs.Reading.{wordLength, wordOf, behind, behindFlag, numberBehind, restBehind, spanIn}
 use Rattle.sheet.proofs.Leading.{starts-split}
 use Rattle.reader.specs.declared.warn.Flag.{Flag}

@@ -9,7 +9,7 @@ use Rattle.words.specs.Reading.{durationAt}
 use Rattle.sheet.specs.declared.Span.{Span}
 use Rattle.sheet.specs.declared.Found.{Found}
 use Rattle.sheet.specs.declared.Found.the-variants as found
-use Rattle.sheet.specs.Sheet.{startsWith}
+use Rattle.text.specs.Parts.{startsWith}
 use Rattle.sheet.specs.Reading.{wordLength, senderAt, nameAt, fromSender, fromName, capOf, fromUrgent, fromUpdate, fromCancel, fromTest, behindFlags, numberBehind, restBehind, fromOrigin, fromPeriod, fromHazard, fromKind, fromWarnUrgency, fromWarnSeverity, fromWarnCertainty, fromResponse, byteOf}
 use Rattle.reader.specs.declared.warn.Flag.{Flag}
 use Rattle.reader.specs.declared.warn.Flags.{Flags}

@@ -8,7 +8,6 @@ use crate::codes::status_of;
 use crate::codes::urgency_of;
 use crate::scan::low_byte;
 use crate::scan::span_in;
-use crate::scan::starts_at;
 use crate::scan::word_at;
 use crate::scan::word_behind;
 use readback::read_duration;
@@ -43,7 +42,7 @@ const LASTS: usize = 7; // ", lasts"
 fn lasting_at(t: &[u8], at: usize) -> Lasting
     ensures { λ r. ⌜ r ≡ lastingOf (drop at (now (t .entry))) ⌝ }
 {
-    if starts_at(t, at, b" no ") {
+    if text::starts_at(t, at, b" no ") {
         return Lasting::Unstated;
     }
     let heard = read_duration(t, at);
@@ -75,7 +74,7 @@ fn parts_at(t: &[u8], at: usize) -> Parts
     requires { ⌜ at ≤ length (now t) + 22 ⌝ }
     ensures { λ r. ⌜ r ≡ partsOf (drop at (now (t .entry))) ⌝ }
 {
-    if starts_at(t, at, b", part") {
+    if text::starts_at(t, at, b", part") {
         return Parts::One(part_at(t, at));
     }
     Parts::Nothing

@@ -1,5 +1,4 @@
 // CAP codes from their words. Any word that is none of a list's is read as the last one of it.
-use crate::scan::equals;
 use sheet::Certainty;
 use sheet::MessageType;
 use sheet::Scope;
@@ -12,16 +11,16 @@ ghost use Rattle.sheet.specs.Reading.{messageOf, statusOf, scopeOf, urgencyOf, 
 pub fn message_of(word: &[u8]) -> MessageType
     ensures { λ r. ⌜ r ≡ messageOf (now (word .entry)) ⌝ }
 {
-    if equals(word, b"alert") {
+    if text::equals(word, b"alert") {
         return MessageType::Alert;
     }
-    if equals(word, b"update") {
+    if text::equals(word, b"update") {
         return MessageType::Update;
     }
-    if equals(word, b"cancel") {
+    if text::equals(word, b"cancel") {
         return MessageType::Cancel;
     }
-    if equals(word, b"ack") {
+    if text::equals(word, b"ack") {
         return MessageType::Ack;
     }
     MessageType::Error
@@ -30,16 +29,16 @@ pub fn message_of(word: &[u8]) -> MessageType
 pub fn status_of(word: &[u8]) -> Status
     ensures { λ r. ⌜ r ≡ statusOf (now (word .entry)) ⌝ }
 {
-    if equals(word, b"actual") {
+    if text::equals(word, b"actual") {
         return Status::Actual;
     }
-    if equals(word, b"exercise") {
+    if text::equals(word, b"exercise") {
         return Status::Exercise;
     }
-    if equals(word, b"system") {
+    if text::equals(word, b"system") {
         return Status::System;
     }
-    if equals(word, b"test") {
+    if text::equals(word, b"test") {
         return Status::Test;
     }
     Status::Draft
@@ -48,10 +47,10 @@ pub fn status_of(word: &[u8]) -> Status
 pub fn scope_of(word: &[u8]) -> Scope
     ensures { λ r. ⌜ r ≡ scopeOf (now (word .entry)) ⌝ }
 {
-    if equals(word, b"public") {
+    if text::equals(word, b"public") {
         return Scope::Public;
     }
-    if equals(word, b"restricted") {
+    if text::equals(word, b"restricted") {
         return Scope::Restricted;
     }
     Scope::Private
@@ -60,16 +59,16 @@ pub fn scope_of(word: &[u8]) -> Scope
 pub fn urgency_of(word: &[u8]) -> Urgency
     ensures { λ r. ⌜ r ≡ urgencyOf (now (word .entry)) ⌝ }
 {
-    if equals(word, b"immediate") {
+    if text::equals(word, b"immediate") {
         return Urgency::Immediate;
     }
-    if equals(word, b"expected") {
+    if text::equals(word, b"expected") {
         return Urgency::Expected;
     }
-    if equals(word, b"future") {
+    if text::equals(word, b"future") {
         return Urgency::Future;
     }
-    if equals(word, b"past") {
+    if text::equals(word, b"past") {
         return Urgency::Past;
     }
     Urgency::Unknown
@@ -78,16 +77,16 @@ pub fn urgency_of(word: &[u8]) -> Urgency
 pub fn severity_of(word: &[u8]) -> Severity
     ensures { λ r. ⌜ r ≡ severityOf (now (word .entry)) ⌝ }
 {
-    if equals(word, b"extreme") {
+    if text::equals(word, b"extreme") {
         return Severity::Extreme;
     }
-    if equals(word, b"severe") {
+    if text::equals(word, b"severe") {
         return Severity::Severe;
     }
-    if equals(word, b"moderate") {
+    if text::equals(word, b"moderate") {
         return Severity::Moderate;
     }
-    if equals(word, b"minor") {
+    if text::equals(word, b"minor") {
         return Severity::Minor;
     }
     Severity::Unknown
@@ -96,16 +95,16 @@ pub fn severity_of(word: &[u8]) -> Severity
 pub fn certainty_of(word: &[u8]) -> Certainty
     ensures { λ r. ⌜ r ≡ certaintyOf (now (word .entry)) ⌝ }
 {
-    if equals(word, b"observed") {
+    if text::equals(word, b"observed") {
         return Certainty::Observed;
     }
-    if equals(word, b"likely") {
+    if text::equals(word, b"likely") {
         return Certainty::Likely;
     }
-    if equals(word, b"possible") {
+    if text::equals(word, b"possible") {
         return Certainty::Possible;
     }
-    if equals(word, b"unlikely") {
+    if text::equals(word, b"unlikely") {
         return Certainty::Unlikely;
     }
     Certainty::Unknown

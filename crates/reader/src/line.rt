@@ -2,7 +2,6 @@
 // sentence.
 use crate::cap::cap_at;
 use crate::scan::span_in;
-use crate::scan::starts_at;
 use crate::warn::warn_at;
 use readback::write_cap;
 use readback::write_warn;
@@ -20,7 +19,7 @@ pub fn found_at(t: &[u8], at: usize) -> Found
     requires { ⌜ at ≤ length (now t) ⌝ }
     ensures { λ r. ⌜ r ≡ foundAt at (drop at (now (t .entry))) ⌝ }
 {
-    if starts_at(t, at, b"warn") {
+    if text::starts_at(t, at, b"warn") {
         return Found::Warn(warn_at(t, at));
     }
     cap_at(t, at)
@@ -49,7 +48,7 @@ pub fn line_at(t: &[u8], at: usize) -> Line
     let mut own = [0u8; 1024];
     match write_found(&mut own, t, found) {
         Wrote::End(n) => {
-            if starts_at(t, at, &own[..n]) {
+            if text::starts_at(t, at, &own[..n]) {
                 return Line::Sentence(found, n);
             }
             return Line::Other;

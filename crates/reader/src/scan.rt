@@ -3,70 +3,14 @@ use sheet::Span;
 ghost use mathlib.Core.Path.{_≡_};
 ghost use Prim.Native.Nat.{_+_, _≤_};
 ghost use lib.ListN.{length, take, drop};
-ghost use Rattle.text.specs.Logic.{eql};
-ghost use Rattle.sheet.specs.Sheet.{startsWith};
 ghost use Rattle.sheet.specs.Reading.{wordLength, spanIn, byteOf};
 ghost use Rattle.reader.specs.Pieces.{wordSpan};
-
-// What stands behind the first k bytes of a text.
-fn skip(t: &[u8], k: usize) -> &[u8]
-    ensures { λ r. ⌜ now r ≡ drop k (now (t .entry)) ⌝ }
-{
-    if t.len() <= k {
-        return &t[..0];
-    }
-    &t[k..]
-}
-
-// The first k bytes of a text, or all of it where it has fewer.
-fn first(t: &[u8], k: usize) -> &[u8]
-    ensures { λ r. ⌜ now r ≡ take k (now (t .entry)) ⌝ }
-{
-    if t.len() <= k {
-        return t;
-    }
-    &t[..k]
-}
 
 // The bytes of a part of a text.
 pub fn span_in(t: &[u8], s: Span) -> &[u8]
     ensures { λ r. ⌜ now r ≡ spanIn (now (t .entry)) s ⌝ }
 {
-    first(skip(t, s.start), s.len)
-}
-
-// Whether a text starts with p.
-fn starts_with(t: &[u8], p: &[u8]) -> bool
-    ensures { λ r. ⌜ r ≡ startsWith (now (p .entry)) (now (t .entry)) ⌝ }
-{
-    let mut i = 0;
-    while i < p.len() {
-        if t.len() <= i {
-            return false;
-        }
-        if t[i] != p[i] {
-            return false;
-        }
-        i += 1;
-    }
-    true
-}
-
-// Whether p stands at a place of a text.
-pub fn starts_at(t: &[u8], at: usize, p: &[u8]) -> bool
-    ensures { λ r. ⌜ r ≡ startsWith (now (p .entry)) (drop at (now (t .entry))) ⌝ }
-{
-    starts_with(skip(t, at), p)
-}
-
-// Whether two texts are equal.
-pub fn equals(a: &[u8], b: &[u8]) -> bool
-    ensures { λ r. ⌜ r ≡ eql (now (a .entry)) (now (b .entry)) ⌝ }
-{
-    if a.len() != b.len() {
-        return false;
-    }
-    starts_with(a, b)
+    text::first(text::skip(t, s.start), s.len)
 }
 
 // The first place from `at` on that holds a comma, or the end; `at` itself where it lies past the end.

@@ -1,7 +1,6 @@
 // WARN sentences, read loosely: literals are passed over by their length, and nothing is checked but which flags stand there. So a
 // place may lie past the end of the text; each `requires` says by how much at most.
 use crate::scan::low_byte;
-use crate::scan::starts_at;
 use readback::read_duration;
 use readback::read_number;
 use sheet::WarnFacts;
@@ -72,7 +71,7 @@ pub struct Hazard {
 fn flag_at(t: &[u8], at: usize, word: &[u8]) -> Flag
     ensures { λ r. ⌜ r ≡ flagAt at (now (word .entry)) (drop at (now (t .entry))) ⌝ }
 {
-    if starts_at(t, at, word) {
+    if text::starts_at(t, at, word) {
         return Flag {
             set: true,
             end: at + word.len(),

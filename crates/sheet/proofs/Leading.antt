@@ -17,7 +17,7 @@ use Rattle.words.specs.Duration.{lasting}
 use Rattle.words.specs.Reading.{numberAt, durationAt, endsNumber, endsDuration}
 use Rattle.words.proofs.ReadNumber.{read-said}
 use Rattle.words.proofs.ReadDuration.{read-duration}
-use Rattle.sheet.specs.Sheet.{startsWith}
+use Rattle.text.specs.Parts.{startsWith}
 use Rattle.sheet.specs.Reading.{wordLength, wordOf, behind, numberBehind, restBehind}
 
 -- ---- a given text

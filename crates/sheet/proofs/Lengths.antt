@@ -32,7 +32,8 @@ use Rattle.sheet.specs.declared.Parts.the-variants.{Nothing, One}
 use Rattle.sheet.specs.declared.CapFacts.{CapFacts}
 use Rattle.sheet.specs.declared.WarnFacts.{WarnFacts}
 use Rattle.sheet.specs.Codes.{messageText, statusText, scopeText, urgencyText, severityText, certaintyText}
-use Rattle.sheet.specs.Sheet.{Sheet, cap, warn, startsWith, isLastingTime, isParts, inRange}
+use Rattle.text.specs.Parts.{startsWith}
+use Rattle.sheet.specs.Sheet.{Sheet, cap, warn, isLastingTime, isParts, inRange}
 use Rattle.sheet.specs.Sentence.{plain, lastingText, partText, partsText, capText, flag, flagsText, originText, hazardText, warnText, sentenceIn, sentence}
 use Rattle.sheet.specs.Reading.{fromLasting, lastingOf, partOf, partsOf, numberBehind, byteOf, warnOf}
 use Rattle.sheet.proofs.Ranges.{lasting-range, part-range, cap-range, WarnRange, warn-range}

@@ -10,7 +10,8 @@ use Rattle.text.specs.Logic.{by-test, and-left, and-right}
 use Rattle.sheet.specs.declared.Found.{Found}
 use Rattle.sheet.specs.declared.Line.{Line}
 use Rattle.sheet.specs.declared.Line.the-variants as line
-use Rattle.sheet.specs.Sheet.{Sheet, cap, warn, startsWith, inRange}
+use Rattle.text.specs.Parts.{startsWith}
+use Rattle.sheet.specs.Sheet.{Sheet, cap, warn, inRange}
 use Rattle.sheet.specs.Sentence.{capText, warnText, sentenceIn, sentence}
 use Rattle.sheet.specs.Reading.{foundAt, sheetOf, isLine, lineAt}
 use Rattle.sheet.specs.Answers.{lineLength}

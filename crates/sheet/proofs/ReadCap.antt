@@ -20,7 +20,8 @@ use Rattle.sheet.specs.declared.Parts.{Parts}
 use Rattle.sheet.specs.declared.Parts.the-variants.{Nothing, One}
 use Rattle.sheet.specs.declared.CapFacts.{CapFacts}
 use Rattle.sheet.specs.Codes.{messageText, statusText, scopeText, urgencyText, severityText, certaintyText}
-use Rattle.sheet.specs.Sheet.{startsWith, isLastingTime, isParts}
+use Rattle.text.specs.Parts.{startsWith}
+use Rattle.sheet.specs.Sheet.{isLastingTime, isParts}
 use Rattle.sheet.specs.Sentence.{plain, lastingText, partText, partsText, capText}
 use Rattle.sheet.specs.Reading.{wordLength, wordOf, fromMessage, fromStatus, fromScope, fromSender, fromName, fromParts, fromNumber, fromTotal, fromUrgency, fromSeverity, fromCertainty, fromLasting, messageOf, statusOf, scopeOf, urgencyOf, severityOf, certaintyOf, lastingOf, partOf, partsOf, capOf}
 use Rattle.sheet.proofs.Leading.{starts-split, word-of, behind-word, number-value, behind-number, duration-value}

@@ -9,7 +9,8 @@ use Rattle.text.specs.Ascii.{ascii}
 use Rattle.text.specs.Logic.{by-test}
 use Rattle.sheet.specs.declared.CapFacts.{CapFacts}
 use Rattle.sheet.specs.declared.WarnFacts.{WarnFacts}
-use Rattle.sheet.specs.Sheet.{Sheet, cap, warn, startsWith, inRange}
+use Rattle.text.specs.Parts.{startsWith}
+use Rattle.sheet.specs.Sheet.{Sheet, cap, warn, inRange}
 use Rattle.sheet.specs.Sentence.{plain, capText, warnText, sentenceIn, sentence}
 use Rattle.sheet.specs.Reading.{wordLength, wordOf, behind, fromMessage, fromStatus, fromScope, fromSender, fromName, senderAt, nameAt, capOf, warnOf, foundAt, sheetIn, sheetOf}
 use Rattle.sheet.proofs.Ranges.{cap-range, warn-range}

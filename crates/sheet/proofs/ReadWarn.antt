@@ -12,7 +12,7 @@ use Rattle.words.specs.Duration.{lasting}
 use Rattle.words.specs.Reading.{durationAt, endsNumber, endsDuration}
 use Rattle.words.proofs.ReadNumber.{ends-comma, ends-stop}
 use Rattle.sheet.specs.declared.WarnFacts.{WarnFacts}
-use Rattle.sheet.specs.Sheet.{startsWith}
+use Rattle.text.specs.Parts.{startsWith}
 use Rattle.sheet.specs.Sentence.{plain, flag, flagsText, originText, hazardText, warnText}
 use Rattle.sheet.specs.Reading.{behindFlag, fromUrgent, fromUpdate, fromCancel, fromTest, behindFlags, numberBehind, restBehind, fromOrigin, fromPeriod, fromHazard, fromKind, fromWarnUrgency, fromWarnSeverity, fromWarnCertainty, fromResponse, byteOf, warnOf}
 use Rattle.sheet.proofs.Leading.{starts-append, number-behind, rest-behind, duration-value, behind-duration}

@@ -3,7 +3,8 @@ use mathlib.Core.Path.{_≡_, refl}
 use mathlib.Core.Bool.{true}
 use mathlib.Core.List.{[], _∷_}
 use Rattle.sheet.specs.declared.ReadBack.the-variants as readback
-use Rattle.sheet.specs.Sheet.{startsWith, allNameBytes, holdsCdataEnd, isName, isParts, fitsPacket, inRange}
+use Rattle.text.specs.Parts.{startsWith}
+use Rattle.sheet.specs.Sheet.{allNameBytes, holdsCdataEnd, isName, isParts, fitsPacket, inRange}
 use Rattle.sheet.specs.Sentence.{sentence}
 use Rattle.sheet.specs.Reading.{sheetOf}
 use Rattle.sheet.specs.Answers.{readBack}

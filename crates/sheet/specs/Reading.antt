@@ -32,7 +32,8 @@ use Rattle.sheet.specs.declared.Found.{Found}
 use Rattle.sheet.specs.declared.Found.the-variants as found
 use Rattle.sheet.specs.declared.Line.{Line}
 use Rattle.sheet.specs.declared.Line.the-variants as line
-use Rattle.sheet.specs.Sheet.{Sheet, cap, warn, startsWith, inRange}
+use Rattle.text.specs.Parts.{startsWith}
+use Rattle.sheet.specs.Sheet.{Sheet, cap, warn, inRange}
 use Rattle.sheet.specs.Sentence.{sentence}
 
 -- ---- a word: the bytes to the next comma

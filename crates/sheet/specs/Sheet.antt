@@ -6,6 +6,7 @@ use Prim.Native.Char.{code}
 use lib.Dec.{eqb, leb, ltb}
 use lib.ListN.{length}
 use Rattle.text.specs.Ascii.{ascii}
+use Rattle.text.specs.Parts.{startsWith}
 use Rattle.words.specs.Duration.{isLasting}
 use Rattle.sheet.specs.declared.Lasting.{Lasting}
 use Rattle.sheet.specs.declared.Lasting.the-variants.{Unstated, Seconds}
@@ -28,12 +29,6 @@ isNameByte b = ltb 0x20 b && not (eqb b (code ",")) && not (eqb b (code "<")) &&
 unfoldable pub allNameBytes : List ℕ → Bool
 allNameBytes [] = true
 allNameBytes (b ∷ l) = isNameByte b && allNameBytes l
-
--- p leads the text
-unfoldable pub startsWith : List ℕ → List ℕ → Bool
-startsWith [] l = true
-startsWith (a ∷ p) [] = false
-startsWith (a ∷ p) (b ∷ l) = eqb b a && startsWith p l
 
 unfoldable pub holdsCdataEnd : List ℕ → Bool
 holdsCdataEnd [] = false

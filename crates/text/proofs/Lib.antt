@@ -1,2 +1,3 @@
 pub mod Laws
 pub mod Buffer
+pub mod Parts

@@ -3,3 +3,4 @@ pub mod Bytes
 pub mod Tokens
 pub mod Logic
 pub mod Buffer
+pub mod Parts

@@ -1,8 +1,10 @@
-// Bytes of texts: what is white space and what a digit, and where a run of them ends.
+// Bytes of texts: what is white space and what a digit, where a run of them ends; parts of texts, and texts compared.
 ghost use mathlib.Core.Path.{_≡_};
 ghost use Prim.Native.Nat.{_+_, _-_};
-ghost use lib.ListN.{drop};
+ghost use lib.ListN.{take, drop};
 ghost use Rattle.text.specs.Bytes.{isSpace, spaces, isDigit};
+ghost use Rattle.text.specs.Logic.{eql};
+ghost use Rattle.text.specs.Parts.{part, startsWith};
 ghost use Rattle.text.specs.Tokens.{tokenLength};
 
 // Whether a byte is white space: tab, line feed, carriage return or space.
@@ -46,4 +48,68 @@ pub fn token_end(s: &[u8], at: usize) -> usize
         i += 1;
     }
     i
+}
+
+// What stands behind the first k bytes of a text.
+pub fn skip(t: &[u8], k: usize) -> &[u8]
+    ensures { λ r. ⌜ now r ≡ drop k (now (t .entry)) ⌝ }
+{
+    if t.len() <= k {
+        return &t[..0];
+    }
+    &t[k..]
+}
+
+// The first k bytes of a text, or all of it where it has fewer.
+pub fn first(t: &[u8], k: usize) -> &[u8]
+    ensures { λ r. ⌜ now r ≡ take k (now (t .entry)) ⌝ }
+{
+    if t.len() <= k {
+        return t;
+    }
+    &t[..k]
+}
+
+// The bytes of a text from one place to another; none where the second is not behind the first.
+pub fn part(t: &[u8], from: usize, until: usize) -> &[u8]
+    ensures { λ r. ⌜ now r ≡ part (now (t .entry)) from until ⌝ }
+{
+    if until <= from {
+        return &t[..0];
+    }
+    first(skip(t, from), until - from)
+}
+
+// Whether a text starts with p.
+pub fn starts_with(t: &[u8], p: &[u8]) -> bool
+    ensures { λ r. ⌜ r ≡ startsWith (now (p .entry)) (now (t .entry)) ⌝ }
+{
+    let mut i = 0;
+    while i < p.len() {
+        if t.len() <= i {
+            return false;
+        }
+        if t[i] != p[i] {
+            return false;
+        }
+        i += 1;
+    }
+    true
+}
+
+// Whether p stands at a place of a text.
+pub fn starts_at(t: &[u8], at: usize, p: &[u8]) -> bool
+    ensures { λ r. ⌜ r ≡ startsWith (now (p .entry)) (drop at (now (t .entry))) ⌝ }
+{
+    starts_with(skip(t, at), p)
+}
+
+// Whether two texts are equal.
+pub fn equals(a: &[u8], b: &[u8]) -> bool
+    ensures { λ r. ⌜ r ≡ eql (now (a .entry)) (now (b .entry)) ⌝ }
+{
+    if a.len() != b.len() {
+        return false;
+    }
+    starts_with(a, b)
 }

@@ -10,8 +10,8 @@ use lib.Dec.{eqb}
 use lib.ListN.{length, getD, take, drop, length-drop, drop-of-length-le}
 use lib.Seq.{drop-cons, take-all}
 use borrow.Author.Tests.{eq-eqb, ne-eqb}
-use Rattle.text.specs.Logic.{eql}
-use Rattle.sheet.specs.Sheet.{startsWith}
+use Rattle.text.specs.Logic.{by-test, eql, eql-true}
+use Rattle.text.specs.Parts.{part, startsWith}
 
 -- ---- parts
 
@@ -20,6 +20,13 @@ drop-part t k = take-all (length t - k) (drop k t) (simp length-drop (omega arit
 
 pub drop-past : (t : List ℕ) (k : ℕ) → length t ≤ k → [] ≡ drop k t
 drop-past t k h = sym (drop-of-length-le t h)
+
+-- a part that ends where it starts, or before
+pub part-none : (t : List ℕ) (a e : ℕ) → e ≤ a → [] ≡ part t a e
+part-none t a e h = rw (none e a h) refl
+  where
+    none : (e a : ℕ) → e ≤ a → e - a ≡ 0
+    none e a h = omega arith
 
 -- ---- p leads t, byte by byte
 
@@ -41,6 +48,10 @@ module _ (t p : List ℕ) (i : ℕ) where
   pub starts-end : length p ≤ i → startsWith (drop i p) (drop i t) ≡ true
   unfolding startsWith
   starts-end h = rw (drop-of-length-le p h)
+
+-- texts of different lengths differ
+pub lengths-differ : (a b : List ℕ) → (length a ≡ length b → ⊥) → false ≡ eql a b
+lengths-differ a b n = by-test (eql a b) (λ e. absurd (n (ap length (eql-true a b e)))) sym
 
 -- of two texts of one length each leads the other only if they are equal
 pub starts-equal : (a b : List ℕ) → length a ≡ length b → startsWith b a ≡ eql a b

@@ -3,8 +3,8 @@ use mathlib.Core.Path.{sym}
 use native.Mathlib.Omega.{arith}
 use lib.Seq.{take-all, length-take-le}
 use borrow.Author.Needs.{needs}
-use Rattle.reader.proofs.scan.first.Tie as tie
-use Rattle.reader.proofs.scan.first.Statement.{statement}
+use Rattle.text.proofs.first.Tie as tie
+use Rattle.text.proofs.first.Statement.{statement}
 
 returns : tie.Need-returns
 returns c = sym (take-all _ _ (c .if1 .taken))

@@ -1,13 +1,12 @@
 -- Texts of different lengths differ; of one length, one leads the other only if they are equal.
 use mathlib.Core.Path.{_∙_}
 use borrow.Author.Needs.{needs}
-use Rattle.readback.proofs.Same.{same-length}
-use Rattle.reader.proofs.Texts.{starts-equal}
-use Rattle.reader.proofs.scan.equals.Tie as tie
-use Rattle.reader.proofs.scan.equals.Statement.{statement}
+use Rattle.text.proofs.Parts.{lengths-differ, starts-equal}
+use Rattle.text.proofs.equals.Tie as tie
+use Rattle.text.proofs.equals.Statement.{statement}
 
 returns : tie.Need-returns
-returns c = same-length (c .before .before .before .args .a .now) (c .before .before .before .args .b .now) (c .if1 .taken)
+returns c = lengths-differ (c .before .before .before .args .a .now) (c .before .before .before .args .b .now) (c .if1 .taken)
 
 starts-with-requires : tie.Need-starts-with-requires
 starts-with-requires c κs = search needs

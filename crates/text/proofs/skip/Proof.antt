@@ -1,8 +1,8 @@
 -- Behind the end stands nothing.
 use borrow.Author.Needs.{needs}
-use Rattle.reader.proofs.Texts.{drop-part, drop-past}
-use Rattle.reader.proofs.scan.skip.Tie as tie
-use Rattle.reader.proofs.scan.skip.Statement.{statement}
+use Rattle.text.proofs.Parts.{drop-part, drop-past}
+use Rattle.text.proofs.skip.Tie as tie
+use Rattle.text.proofs.skip.Statement.{statement}
 
 slice-aggregate-result : tie.Need-slice-aggregate-result
 slice-aggregate-result c = search needs

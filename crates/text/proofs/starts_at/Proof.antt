@@ -1,9 +1,9 @@
 -- What stands from a place on is what stands behind the bytes in front of it.
 use mathlib.Core.Path.{ap, _∙_}
 use borrow.Author.Needs.{needs}
-use Rattle.sheet.specs.Sheet.{startsWith}
-use Rattle.reader.proofs.scan.starts_at.Tie as tie
-use Rattle.reader.proofs.scan.starts_at.Statement.{statement}
+use Rattle.text.specs.Parts.{startsWith}
+use Rattle.text.proofs.starts_at.Tie as tie
+use Rattle.text.proofs.starts_at.Statement.{statement}
 
 skip-requires : tie.Need-skip-requires
 skip-requires c κs = search needs

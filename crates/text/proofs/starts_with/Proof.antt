@@ -3,10 +3,10 @@ use mathlib.Core.Path.{_≡_, refl, sym, _∙_}
 use Prim.Native.Nat.{_-_}
 use native.Mathlib.Omega.{arith}
 use lib.ListN.{length, drop}
-use Rattle.sheet.specs.Sheet.{startsWith}
-use Rattle.reader.proofs.Texts.{starts-on, starts-differ, starts-short, starts-end}
-use Rattle.reader.proofs.scan.starts_with.Tie as tie
-use Rattle.reader.proofs.scan.starts_with.Statement.{statement}
+use Rattle.text.specs.Parts.{startsWith}
+use Rattle.text.proofs.Parts.{starts-on, starts-differ, starts-short, starts-end}
+use Rattle.text.proofs.starts_with.Tie as tie
+use Rattle.text.proofs.starts_with.Statement.{statement}
 
 abbrev Inv-loop : tie.InvT-loop
 Inv-loop t p i₀ i = startsWith (drop i p) (drop i t) ≡ startsWith p t
