@@ -1,0 +1,12 @@
+pub mod ByteKinds
+pub mod Places
+pub mod Searches
+pub mod Runs
+pub mod Ends
+pub mod Binding
+pub mod Dashes
+pub mod Faults
+pub mod Declaration
+pub mod Bounds
+pub mod Skips
+pub mod Clean

@@ -1,0 +1,28 @@
+-- Each arm of the match is the definition's case.
+use mathlib.Core.Path.{sym, ap}
+use borrow.Author.Needs.{needs}
+use Rattle.xml.specs.Attributes.{bound}
+use Rattle.xml.proofs.attributes.bind.Tie as tie
+use Rattle.xml.proofs.attributes.bind.Statement.{statement}
+
+enum-known-tail : tie.Need-enum-known-tail
+enum-known-tail c = search needs
+
+enum-known-tail-2 : tie.Need-enum-known-tail-2
+enum-known-tail-2 c = search needs
+
+enum-told : tie.Need-enum-told
+enum-told c = search needs
+
+returns : tie.Need-returns
+returns c = ap (bound (c .before .before .before .args .p) (c .before .before .before .args .u)) (sym (c .before .tail .given .1))
+
+returns-2 : tie.Need-returns-2
+returns-2 c = ap (bound (c .before .before .before .args .p) (c .before .before .before .args .u)) (sym (c .before .tail2 .given .1))
+
+returns-3 : tie.Need-returns-3
+returns-3 c = ap (bound (c .before .before .args .p) (c .before .before .args .u)) (sym (c .enum-told .given .1))
+
+pub bind-spec : {M : Type 1} → statement M
+bind-spec =
+    tie.close (tie.spec enum-known-tail enum-known-tail-2 enum-told returns returns-2 returns-3)

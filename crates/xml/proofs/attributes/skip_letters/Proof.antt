@@ -1,0 +1,55 @@
+-- What is left to skip from i on, and i, is what was to skip from the start on.
+use mathlib.Core.Path.{_≡_, refl, sym, _∙_}
+use Prim.Native.Nat.{_+_, _-_}
+use native.Mathlib.Omega.{arith}
+use lib.ListN.{length, drop}
+use borrow.Author.Needs.{needs}
+use Rattle.xml.specs.Bytes.{isLetter, leading}
+use Rattle.xml.proofs.Runs.{run-on, run-stop, run-end}
+use Rattle.xml.proofs.attributes.skip_letters.Tie as tie
+use Rattle.xml.proofs.attributes.skip_letters.Statement.{statement}
+
+abbrev Inv-loop : tie.InvT-loop
+Inv-loop s at i₀ i = i + leading isLetter (drop i s) ≡ at + leading isLetter (drop at s)
+
+abbrev μ-loop : tie.MeasureT-loop
+μ-loop s at i₀ i = length s - i
+
+loop-holds : tie.Need-loop-holds Inv-loop μ-loop
+loop-holds c = refl
+
+shared-slice-read-is-letter : tie.Need-shared-slice-read-is-letter Inv-loop μ-loop
+shared-slice-read-is-letter c = search needs
+
+is-letter-requires : tie.Need-is-letter-requires Inv-loop μ-loop
+is-letter-requires c κs = search needs
+
+add-i : tie.Need-add-i Inv-loop μ-loop
+add-i c = omega arith
+
+loop-less : tie.Need-loop-less Inv-loop μ-loop
+loop-less c = omega arith
+
+loop-again : tie.Need-loop-again Inv-loop μ-loop
+loop-again c = sym (run-on isLetter _ _ (c .before .before .before .loop-test .taken) (sym (c .before .is-letter .ensures) ∙ c .if1 .taken)) ∙ c .before .before .before .before .loop .inv
+
+returns : tie.Need-returns Inv-loop μ-loop
+returns c = sym (run-stop isLetter _ _ (c .before .before .before .loop-test .taken) (sym (c .before .is-letter .ensures) ∙ c .if1 .left)) ∙ c .before .before .before .before .loop .inv
+
+returns-2 : tie.Need-returns-2 Inv-loop μ-loop
+returns-2 c = sym (run-end isLetter _ _ (c .loop-test .left)) ∙ c .before .loop .inv
+
+pub skip-letters-spec : {M : Type 1} → statement M
+skip-letters-spec =
+    tie.close
+    (tie.spec
+    Inv-loop
+    μ-loop
+    loop-holds
+    shared-slice-read-is-letter
+    is-letter-requires
+    add-i
+    loop-less
+    loop-again
+    returns
+    returns-2)

@@ -1,0 +1,6 @@
+pub mod Bytes
+pub mod Tags
+pub mod Attributes
+pub mod Comments
+pub mod Texts
+pub mod Opening

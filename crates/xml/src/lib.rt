@@ -1,0 +1,48 @@
+// The form of CAP documents as XML: where a construct ends, and whether its form is one that document 01 takes.
+// Any place may be named: past the end a document holds nothing.
+pub mod attributes; // attributes.rt: the name space attribute
+pub mod comments; // comments.rt
+pub mod opening; // opening.rt: byte order mark and declaration
+pub mod tags; // tags.rt: where tags and their names end
+pub mod texts; // texts.rt: texts of leaf elements
+mod bytes; // bytes.rt: bytes by their kind
+
+// Where something stands, or that it stands nowhere.
+pub enum Found {
+    At(usize),
+    Nothing,
+}
+
+// What ends a tag behind its name or attribute: ">" or "/>", with the place behind it, or something else.
+pub enum Tail {
+    Open(usize),
+    Empty(usize),
+    Fault,
+}
+
+// The name space attribute of a tag: the prefix it binds (from, until), and the place behind the tag; an empty tag; or a fault.
+pub enum NameSpace {
+    Bound(usize, usize, usize),
+    Empty,
+    Fault,
+}
+
+// A comment, behind its opening: the place behind it, a fault in it, or no end.
+pub enum Comment {
+    Behind(usize),
+    Fault,
+    Unended,
+}
+
+// A text: where it ends, the place of its first fault, or no end.
+pub enum Content {
+    Clean(usize),
+    Fault(usize),
+    Unended,
+}
+
+// What stands before the first construct: the place behind it, or the place of the refusal.
+pub enum Prolog {
+    Behind(usize),
+    Fault(usize),
+}
