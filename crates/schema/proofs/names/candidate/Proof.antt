@@ -1,0 +1,88 @@
+-- A text that has a class has 3 to 12 letters, and its hash leads to its class.
+use Prim.Native.Nat.{_-_}
+use native.Mathlib.Omega.{arith}
+use lib.ListN.{length}
+use borrow.Author.Needs.{needs}
+use Rattle.schema.proofs.Hash.{hashed, found-low, found-fits, not-short, not-long, found-class}
+use Rattle.schema.proofs.names.candidate.Statement.{statement}
+use Rattle.schema.proofs.names.candidate.Tie as tie
+
+returns : tie.Need-returns
+returns c = (omega arith, λ h. absurd (omega (arith, not-short (c .before .args .t .now) h)))
+
+returns-2 : tie.Need-returns-2
+returns-2 c = (omega arith, λ h. absurd (omega (arith, not-long (c .before .before .args .t .now) h)))
+
+shared-slice-read-first : tie.Need-shared-slice-read-first
+shared-slice-read-first c = search needs
+
+cast-first : tie.Need-cast-first
+cast-first c = omega (arith, c .shared-slice-known .given 0)
+
+shared-slice-read-third : tie.Need-shared-slice-read-third
+shared-slice-read-third c = search needs
+
+cast-third : tie.Need-cast-third
+cast-third c = omega (arith, c .shared-slice-known2 .given 2)
+
+sub-last : tie.Need-sub-last
+sub-last c = search needs
+
+shared-slice-read-last : tie.Need-shared-slice-read-last
+shared-slice-read-last c = search needs
+
+cast-last : tie.Need-cast-last
+cast-last c = omega (arith, c .shared-slice-known3 .given (length (c .before .before .before .before .before .args .t .now) - 1))
+
+mul-result : tie.Need-mul-result
+mul-result c = omega (arith, c .shared-slice-known3 .given 2)
+
+add-result : tie.Need-add-result
+add-result c = let b = c .shared-slice-known3 .given in omega (arith, b 0, b 2)
+
+add-result-2 : tie.Need-add-result-2
+add-result-2 c =
+    let b = c .shared-slice-known3 .given in
+    omega (arith, b 0, b 2, b (length (c .before .before .before .before .before .args .t .now) - 1))
+
+mul-result-2 : tie.Need-mul-result-2
+mul-result-2 c = search needs
+
+index-1-result : tie.Need-index-1-result
+index-1-result c = search needs
+
+index-2-result : tie.Need-index-2-result
+index-2-result c = search needs
+
+cast-result : tie.Need-cast-result
+unfolding hashed
+cast-result c = let a = c .before .before .before .before in found-fits (a .before .before .args .t .now) (a .if2 .left)
+
+returns-3 : tie.Need-returns-3
+unfolding hashed
+returns-3 c =
+    let a = c .before .before .before .before in
+    let t = a .before .before .args .t .now in
+    (found-low t (a .if2 .left), found-class t)
+
+pub candidate-spec : {M : Type 1} → statement M
+candidate-spec =
+    tie.close
+    (tie.spec
+    returns
+    returns-2
+    shared-slice-read-first
+    cast-first
+    shared-slice-read-third
+    cast-third
+    sub-last
+    shared-slice-read-last
+    cast-last
+    mul-result
+    add-result
+    add-result-2
+    mul-result-2
+    index-1-result
+    index-2-result
+    cast-result
+    returns-3)
