@@ -1,0 +1,4 @@
+pub mod Spelling
+pub mod Search
+pub mod Cases
+pub mod Kept

@@ -1,0 +1,27 @@
+-- The rule follows from what the circle's reader says.
+use mathlib.Core.Path.{sym, ap, _∙_}
+use borrow.Author.Needs.{needs}
+use Rattle.rules.specs.Texts.{circleNumber, circleRule}
+use Rattle.rules.proofs.circle_rule.Statement.{statement}
+use Rattle.rules.proofs.circle_rule.Tie as tie
+
+read-circle-requires : tie.Need-read-circle-requires
+read-circle-requires c κs = search needs
+
+enum-known-read : tie.Need-enum-known-read
+enum-known-read c = search needs
+
+enum-told : tie.Need-enum-told
+enum-told c = search needs
+
+returns : tie.Need-returns
+unfolding circleRule
+returns c = ap circleNumber (sym (c .before .read .given .1) ∙ c .before .before .before .read-circle .ensures)
+
+returns-2 : tie.Need-returns-2
+unfolding circleRule
+returns-2 c = ap circleNumber (sym (c .enum-told .given .1) ∙ c .before .before .read-circle .ensures)
+
+pub circle-rule-spec : {M : Type 1} → statement M
+circle-rule-spec =
+    tie.close (tie.spec read-circle-requires enum-known-read enum-told returns returns-2)

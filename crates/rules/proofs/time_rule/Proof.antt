@@ -1,0 +1,27 @@
+-- The rule follows from what the time's reader says.
+use mathlib.Core.Path.{sym, ap, _∙_}
+use borrow.Author.Needs.{needs}
+use Rattle.rules.specs.Texts.{timeNumber, timeRule}
+use Rattle.rules.proofs.time_rule.Statement.{statement}
+use Rattle.rules.proofs.time_rule.Tie as tie
+
+read-time-requires : tie.Need-read-time-requires
+read-time-requires c κs = search needs
+
+enum-known-read : tie.Need-enum-known-read
+enum-known-read c = search needs
+
+enum-told : tie.Need-enum-told
+enum-told c = search needs
+
+returns : tie.Need-returns
+unfolding timeRule
+returns c = ap timeNumber (sym (c .before .read .given .1) ∙ c .before .before .before .read-time .ensures)
+
+returns-2 : tie.Need-returns-2
+unfolding timeRule
+returns-2 c = ap timeNumber (sym (c .enum-told .given .1) ∙ c .before .before .read-time .ensures)
+
+pub time-rule-spec : {M : Type 1} → statement M
+time-rule-spec =
+    tie.close (tie.spec read-time-requires enum-known-read enum-told returns returns-2)

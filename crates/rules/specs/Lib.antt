@@ -1,0 +1,4 @@
+pub mod Codes
+pub mod AllCodes
+pub mod Texts
+pub mod Samples
