@@ -1,0 +1,12 @@
+pub mod Events
+pub mod Ahead
+pub mod Runs
+pub mod Answers
+pub mod Places
+pub mod Accepted
+pub mod Sound
+pub mod Schema
+pub mod Prefixes
+pub mod ElementSteps
+pub mod TagSteps
+pub mod Steps

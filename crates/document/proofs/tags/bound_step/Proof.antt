@@ -1,0 +1,34 @@
+-- The name under the prefix that the tag binds is alert or not.
+use borrow.Author.Needs.{needs}
+use Rattle.document.proofs.TagSteps.{bound-alert, bound-other}
+use Rattle.document.proofs.tags.bound_step.Statement.{statement}
+use Rattle.document.proofs.tags.bound_step.Tie as tie
+
+add-name-under : tie.Need-add-name-under
+add-name-under c = search needs
+
+name-under-requires : tie.Need-name-under-requires
+name-under-requires c κs = search needs
+
+is-named-requires : tie.Need-is-named-requires
+is-named-requires c κs = search needs
+
+next-requires : tie.Need-next-requires
+next-requires c κs = search needs
+
+returns : tie.Need-returns
+returns c =
+    let a = c .before .before .before .before .before .before .args in
+    bound-alert (a .s .now) (a .m) (a .n) (a .p) (a .u) (a .next) _ _ (c .before .before .before .name-under .ensures)
+    (c .before .before .is-named .ensures) _ (c .before .if1 .taken) (c .next .ensures)
+
+returns-2 : tie.Need-returns-2
+returns-2 c =
+    let a = c .before .before .before .before .before .args in
+    bound-other (a .s .now) (a .m) (a .n) (a .p) (a .u) (a .next) _ _ (c .before .before .name-under .ensures)
+    (c .before .is-named .ensures) (c .if1 .left)
+
+pub bound-step-spec : {M : Type 1} → statement M
+bound-step-spec =
+    tie.close
+    (tie.spec add-name-under name-under-requires is-named-requires next-requires returns returns-2)

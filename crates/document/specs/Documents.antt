@@ -1,0 +1,62 @@
+-- The whole document, "strictly left to right".
+use mathlib.Core.Bool.{Bool, true, false, cond}
+use mathlib.Core.List.{List, [], _∷_}
+use Prim.Native.Nat.{ℕ, zero, suc}
+use lib.Dec.{ltb}
+use lib.ListN.{length}
+use Rattle.text.specs.Parts.{part}
+use Rattle.xml.specs.declared.Prolog.{Prolog}
+use Rattle.xml.specs.declared.Prolog.the-variants as prolog
+use Rattle.xml.specs.Opening as opening
+use Rattle.schema.specs.Sequences.{before}
+use Rattle.document.specs.declared.Mode.{Mode}
+use Rattle.document.specs.declared.Event.{Event}
+use Rattle.document.specs.declared.Event.the-variants.{Silent, Opened, Text, Closed}
+use Rattle.document.specs.declared.Step.{Step}
+use Rattle.document.specs.declared.Step.the-variants.{Next, Done, Refused}
+use Rattle.document.specs.declared.Check.{Check}
+use Rattle.document.specs.declared.Check.the-variants as check
+use Rattle.document.specs.Elements.{Element, opened, text, closed, Verdict, accepted, refused, given, total}
+use Rattle.document.specs.Constructs.{stepOf}
+
+-- the element that an event tells of
+abbrev pub elementsOf : List ℕ → Event → List Element
+elementsOf l Silent = []
+elementsOf l (Opened c p) = opened c p ∷ []
+elementsOf l (Text c from until) = text c from (part l from until) ∷ []
+elementsOf l (Closed c) = closed c ∷ []
+
+-- a step, and the rest of the document by what comes after it
+abbrev pub after : List ℕ → (Mode → Verdict) → Step → Verdict
+after l rest (Next m e) = given (elementsOf l e) (rest m)
+after l rest Done = accepted []
+after l rest (Refused n p) = refused n p
+
+-- the constructs from a mode on, at most n
+unfoldable pub run : ℕ → List ℕ → Mode → Verdict
+run zero l m = refused 15 (length l)
+run (suc n) l m = after l (run n l) (stepOf l m)
+
+-- before the first construct
+abbrev pub begin : ℕ → Mode
+begin at = record { at = at; row = before; leaf = 0; infos = 0; prefix = 0; until = 0 }
+
+-- each construct takes a byte at least, so one more than there are bytes is enough
+abbrev pub readFrom : List ℕ → Mode → Verdict
+readFrom l m = run (suc (length l)) l m
+
+abbrev pub prologed : List ℕ → Prolog → Verdict
+prologed l (prolog.Behind at) = readFrom l (begin at)
+prologed l (prolog.Fault p) = refused 15 p
+
+-- "14 for length first, then strictly left to right"
+unfoldable pub documentOf : List ℕ → Verdict
+documentOf l = cond (ltb 65_536 (length l)) (refused 14 0) (prologed l (opening.prolog l))
+
+-- the answer to checking a document: "refused with number and place", or accepted with the number of parts
+abbrev pub checked : Verdict → Check
+checked (accepted es) = check.Accepted (total es)
+checked (refused n p) = check.Refused n p
+
+unfoldable pub checkOf : List ℕ → Check
+checkOf l = checked (documentOf l)

@@ -1,0 +1,48 @@
+-- What a document is: its elements in their order, or a refusal.
+use mathlib.Core.Bool.{Bool, true, false}
+use mathlib.Core.List.{List, [], _∷_, _++_}
+use Prim.Native.Nat.{ℕ, _+_}
+use lib.Dec.{eqb}
+use mir.Val.{boolByte}
+use Rattle.schema.specs.Classes as class
+
+-- a container's start tag at a place; a leaf's text, from the byte behind its start tag on; a container's end
+pub data Element : Type 0 where
+  opened : (class place : ℕ) → Element
+  text : (class place : ℕ) (bytes : List ℕ) → Element
+  closed : (class : ℕ) → Element
+
+-- "A refusal gives the number and a place"
+pub data Verdict : Type 0 where
+  accepted : (elements : List Element) → Verdict
+  refused : (number place : ℕ) → Verdict
+
+-- elements in front of those of a verdict
+abbrev pub given : List Element → Verdict → Verdict
+given es (accepted xs) = accepted (es ++ xs)
+given es (refused n p) = refused n p
+
+abbrev pub isStart : ℕ → Element → Bool
+isStart c (opened d p) = eqb d c
+isStart c (text d p t) = false
+isStart c (closed d) = false
+
+-- how many containers of a class there are
+unfoldable pub starts : ℕ → List Element → ℕ
+starts c [] = 0
+starts c (x ∷ xs) = boolByte (isStart c x) + starts c xs
+
+-- "Parts are the info elements": how many there are
+abbrev pub total : List Element → ℕ
+total es = starts class.info es
+
+-- ---- facts of a document are gathered from its elements one by one
+
+unfoldable pub gather : {F : Type 0} → (F → Element → F) → F → List Element → F
+gather note f [] = f
+gather note f (x ∷ xs) = gather note (note f x) xs
+
+-- an answer by a verdict: by the facts gathered from f on, or by the refusal's number and place
+abbrev pub answer : {F R : Type 0} → (F → R) → (ℕ → ℕ → R) → (F → Element → F) → F → Verdict → R
+answer done stop note f (accepted es) = done (gather note f es)
+answer done stop note f (refused n p) = stop n p

@@ -1,0 +1,6 @@
+pub mod Elements
+pub mod Tags
+pub mod Constructs
+pub mod Documents
+pub mod Following
+pub mod Samples

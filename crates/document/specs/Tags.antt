@@ -1,0 +1,167 @@
+-- Tags, each judged in the order 15, 16, 14, and the text behind a leaf's start tag, judged in the order 15, 14, 19, 17, 18, 22.
+use mathlib.Core.Bool.{Bool, true, false, cond, not, _&&_, _||_}
+use mathlib.Core.List.{List, [], _∷_, _++_}
+use Prim.Native.Nat.{ℕ, zero, suc, _+_}
+use Prim.Native.Char.{code}
+use lib.Dec.{eqb, leb, ltb}
+use lib.ListN.{length, drop}
+use Rattle.text.specs.Ascii.{ascii}
+use Rattle.text.specs.Logic.{eql}
+use Rattle.text.specs.Parts.{startsWith, part}
+use Rattle.xml.specs.declared.Found.{Found}
+use Rattle.xml.specs.declared.Found.the-variants.{At, Nothing}
+use Rattle.xml.specs.declared.Tail.{Tail}
+use Rattle.xml.specs.declared.Tail.the-variants as tail
+use Rattle.xml.specs.declared.NameSpace.{NameSpace}
+use Rattle.xml.specs.declared.NameSpace.the-variants as space
+use Rattle.xml.specs.declared.Content.{Content}
+use Rattle.xml.specs.declared.Content.the-variants as content
+use Rattle.xml.specs.Bytes.{isTagByte, leading}
+use Rattle.xml.specs.Tags as tags
+use Rattle.xml.specs.Attributes.{nameSpace}
+use Rattle.xml.specs.Texts as texts
+use Rattle.schema.specs.Classes as class
+use Rattle.schema.specs.Sequences.{nextOf, containerOf, before, over}
+use Rattle.rules.specs.Texts.{textRule}
+use Rattle.document.specs.declared.Mode.{Mode}
+use Rattle.document.specs.declared.Event.{Event}
+use Rattle.document.specs.declared.Event.the-variants.{Silent, Opened, Text, Closed}
+use Rattle.document.specs.declared.Step.{Step}
+use Rattle.document.specs.declared.Step.the-variants.{Next, Done, Refused}
+
+-- the mode at another place, in a row and a leaf
+abbrev pub moved : Mode → (at row leaf : ℕ) → Mode
+moved m at row leaf = record { at = at; row = row; leaf = leaf; infos = m .infos; prefix = m .prefix; until = m .until }
+
+-- ---- names
+
+-- "every tag then carries that prefix, or none": a tag's name behind the document's prefix; empty, which no element is called, where it doesn't carry it
+abbrev pub behindPrefix : List ℕ → List ℕ → List ℕ
+behindPrefix [] name = name
+behindPrefix (b ∷ p) name = cond (startsWith ((b ∷ p) ++ ascii ":") name) (drop (length (b ∷ p) + 1) name) []
+
+-- the name of the tag from one place to another, under the mode's prefix
+abbrev pub nameIn : List ℕ → Mode → ℕ → ℕ → List ℕ
+nameIn l m from until = behindPrefix (part l (m .prefix) (m .until)) (part l from until)
+
+-- ---- a leaf
+
+-- a text with the number that its rule gives: "for a text's content, the byte after its start tag".
+-- leaf: the class whose end tag is due behind it, 0 for none
+abbrev pub ruled : Mode → (row leaf class from until number : ℕ) → Step
+ruled m row leaf c from until zero = Next (moved m until row leaf) (Text c from until)
+ruled m row leaf c from until (suc n) = Refused (suc n) from
+
+abbrev pub textStep : List ℕ → Mode → (row class from : ℕ) → Content → Step
+textStep l m row c from (content.Clean e) = ruled m row c c from e (textRule c (part l from e))
+textStep l m row c from (content.Fault p) = Refused 15 p
+textStep l m row c from content.Unended = Refused 15 (length l)
+
+-- ---- a container
+
+-- the mode behind a container's start tag, which ends before next
+abbrev pub entered : Mode → (row infos next : ℕ) → Mode
+entered m row infos next = record { at = next; row = row; leaf = 0; infos = infos; prefix = m .prefix; until = m .until }
+
+-- a container's start tag; 14: "a 17th info"
+abbrev pub enterStep : Mode → (row class next : ℕ) → Step
+enterStep m row c next =
+    cond (eqb c class.info)
+    (cond (leb 16 (m .infos)) (Refused 14 (m .at)) (Next (entered m row (m .infos + 1) next) (Opened c (m .at))))
+    (Next (entered m row (m .infos) next) (Opened c (m .at)))
+
+-- ---- start tags
+
+-- 16: "element unknown, misplaced, repeated": class 0 is unknown, in a leaf nothing may stand, and elsewhere what the table says
+abbrev pub isMisplaced : Mode → ℕ → Bool
+isMisplaced m c = eqb c 0 || not (eqb (m .leaf) 0) || eqb (nextOf (m .row) c) 0
+
+-- a start tag, which ends before next
+unfoldable pub openStep : List ℕ → Mode → (class next : ℕ) → Step
+openStep l m c next =
+    cond (isMisplaced m c) (Refused 16 (m .at))
+    (cond (leb c class.lastContainer) (enterStep m (nextOf (m .row) c) c next)
+    (textStep l m (nextOf (m .row) c) c next (texts.content l next)))
+
+-- "an empty tag is an empty text"; in every container something is required: "for something missing, its container's end or empty tag"
+unfoldable pub emptyStep : Mode → (class next : ℕ) → Step
+emptyStep m c next =
+    cond (isMisplaced m c || leb c class.lastContainer) (Refused 16 (m .at))
+    (ruled m (nextOf (m .row) c) 0 c next next (textRule c []))
+
+-- a start tag other than the alert's, whose name ends at n, by what ends it; 15: "Other tags have no attribute"
+abbrev pub otherStep : List ℕ → Mode → ℕ → Tail → Step
+otherStep l m n (tail.Open next) = openStep l m (class.classOf (nameIn l m (m .at + 1) n)) next
+otherStep l m n (tail.Empty next) = emptyStep m (class.classOf (nameIn l m (m .at + 1) n)) next
+otherStep l m n tail.Fault = Refused 15 (m .at)
+
+-- "The alert start tag has one attribute only"; its own name stands under the prefix that it binds, and an empty alert misses something
+unfoldable pub boundStep : List ℕ → Mode → (n prefix until next : ℕ) → Step
+boundStep l m n p u next =
+    cond (eql (behindPrefix (part l p u) (part l (m .at + 1) n)) (class.nameOf class.alert))
+    (Next (record { at = next; row = nextOf before class.alert; leaf = 0; infos = 0; prefix = p; until = u }) (Opened class.alert (m .at)))
+    (Refused 16 (m .at))
+
+abbrev pub alertStep : List ℕ → Mode → ℕ → NameSpace → Step
+alertStep l m n (space.Bound p u next) = boundStep l m n p u next
+alertStep l m n space.Empty = Refused 16 (m .at)
+alertStep l m n space.Fault = Refused 15 (m .at)
+
+-- what stands before the first ":" of a tag's name is its prefix; the rest, or all, is its local name
+abbrev pub isBeforeColon : ℕ → Bool
+isBeforeColon b = not (eqb b (code ":"))
+
+abbrev localFrom : List ℕ → ℕ → List ℕ
+localFrom name n = cond (startsWith (ascii ":") (drop n name)) (drop (n + 1) name) name
+
+unfoldable pub localName : List ℕ → List ℕ
+localName name = localFrom name (leading isBeforeColon name)
+
+-- the alert start tag is the document's first tag, if its local name is alert
+unfoldable pub isAlert : List ℕ → Mode → ℕ → Bool
+isAlert l m n = eqb (m .row) before && eql (localName (part l (m .at + 1) n)) (class.nameOf class.alert)
+
+-- a start tag whose name ends at n; 15: "a tag name empty", as that of DOCTYPE, CDATA and instructions is, and "a tag after the alert's end"
+unfoldable pub startStep : List ℕ → Mode → ℕ → Step
+startStep l m n =
+    cond (eqb n (m .at + 1) || eqb (m .row) over) (Refused 15 (m .at))
+    (cond (isAlert l m n) (alertStep l m n (nameSpace l n)) (otherStep l m n (tags.tail l n)))
+
+-- ---- end tags
+
+-- the element whose end tag is due, 0 for none
+abbrev pub openClass : Mode → ℕ
+openClass m = cond (eqb (m .leaf) 0) (containerOf (m .row)) (m .leaf)
+
+-- a right end tag: "for something missing, its container's end"
+unfoldable pub closeStep : Mode → ℕ → Step
+closeStep m next =
+    cond (not (eqb (m .leaf) 0)) (Next (moved m next (m .row) 0) Silent)
+    (cond (eqb (nextOf (m .row) 0) 0) (Refused 16 (m .at))
+    (Next (moved m next (nextOf (m .row) 0) 0) (Closed (containerOf (m .row)))))
+
+-- "a wrong end tag"
+abbrev pub isRightEnd : List ℕ → Mode → ℕ → Bool
+isRightEnd l m n = not (eqb (openClass m) 0) && eql (nameIn l m (m .at + 2) n) (class.nameOf (openClass m))
+
+abbrev pub endStep : List ℕ → Mode → ℕ → Tail → Step
+endStep l m n (tail.Open next) = cond (isRightEnd l m n) (closeStep m next) (Refused 15 (m .at))
+endStep l m n (tail.Empty next) = Refused 15 (m .at)
+endStep l m n tail.Fault = Refused 15 (m .at)
+
+-- ---- any tag
+
+-- a tag that has an end: an end tag by its "/", else a start tag
+unfoldable pub endedStep : List ℕ → Mode → Step
+endedStep l m =
+    cond (startsWith (ascii "</") (drop (m .at) l))
+    (endStep l m (tags.nameEnd l (m .at + 2)) (tags.tail l (tags.nameEnd l (m .at + 2))))
+    (startStep l m (tags.nameEnd l (m .at + 1)))
+
+-- "one of these .. without its end .. gives only 15 at the input's length"
+abbrev pub foundStep : List ℕ → Mode → Found → Step
+foundStep l m (At e) = endedStep l m
+foundStep l m Nothing = Refused 15 (length l)
+
+unfoldable pub tagStep : List ℕ → Mode → Step
+tagStep l m = foundStep l m (tags.tagEnd 0 (m .at + 1) (drop (m .at + 1) l))
