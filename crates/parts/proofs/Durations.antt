@@ -1,0 +1,83 @@
+-- How long it is between two near instants, as the code takes it.
+use mathlib.Core.Path.{_≡_, refl, ap, subst}
+use mathlib.Core.Bool.{Bool, true, false, cond, _&&_}
+use Prim.Native.Nat.{ℕ, _≤_, _<_}
+use native.Mathlib.Omega.{arith}
+use borrow.Author.Tests.{leb-true}
+use lib.Dec.{T, leb}
+use lib.IntN.{ℤ, pos, negsuc, natAbs, _-ℤ_}
+use lib.Signed.{mag, nonNeg, leZ}
+use mir.Syntax.{w32, w64}
+use mir.Val.{Fits, SFits}
+use Rattle.text.specs.Logic.{and-right}
+use Rattle.integers.specs.Magnitude.{abs-sub}
+use Rattle.integers.specs.Bits.{read, read-given, read-small}
+use Rattle.integers.specs.Reads.{reads-abs, sub-fits, sub-reads}
+use Rattle.time.specs.declared.Time.{Time}
+use Rattle.time.specs.declared.Time.the-variants.{Instant}
+use Rattle.sheet.specs.declared.Lasting.the-variants as lasting
+use Rattle.parts.specs.declared.Lasts.{Lasts}
+use Rattle.parts.specs.declared.Lasts.the-variants as lasts
+use Rattle.parts.specs.Sheets.{between, startOf, lastsFrom}
+use Rattle.parts.specs.Gathering.{isNear}
+
+-- ---- the difference of two near instants
+
+-- the code's test of a difference
+abbrev tested : ℤ → Bool
+tested z = leZ (pos 1) z && leZ z (pos 31_536_000)
+
+between-tested : (z : ℤ) → between z ≡ tested z
+between-tested (pos n) = refl
+between-tested (negsuc n) = refl
+
+-- how long it is, by the difference
+abbrev lasted : ℤ → Lasts
+lasted z = cond (between z) (lasts.Stated (lasting.Seconds (natAbs z))) lasts.OutOfRange
+
+lasting-fits : (z : ℤ) → tested z ≡ true → T (nonNeg z) × Fits w32 (natAbs z)
+lasting-fits (pos n) e = (tt, record { fits = omega (arith, leb-true n 31_536_000 (and-right (leb 1 n) (leb n 31_536_000) e)) })
+lasting-fits (negsuc n) e = absurd (let z : _≡_ {A = ℕ} 0 1 = cc in omega arith)
+
+module _ (start end : ℤ) (near : (natAbs start ≤ 300_000_000_000) × (natAbs end ≤ 300_000_000_000)) where
+  -- it fits
+  pub far-fits : SFits w64 (read w64 end -ℤ read w64 start)
+  far-fits = sub-fits (reads-abs end (omega (arith, near))) (reads-abs start (omega (arith, near))) (omega (arith, near, abs-sub end start))
+
+  -- and is that of the instants
+  far-is : read w64 (read w64 end -ℤ read w64 start) ≡ end -ℤ start
+  far-is =
+      sub-reads (reads-abs end (omega (arith, near))) (reads-abs start (omega (arith, near))) (omega (arith, near, abs-sub end start)) .is
+
+  module _ (e : tested (read w64 (read w64 end -ℤ read w64 start)) ≡ true) where
+    -- a lasting time fits 32 bits
+    pub far-cast : T (nonNeg (read w64 (read w64 end -ℤ read w64 start))) × Fits w32 (natAbs (read w64 (read w64 end -ℤ read w64 start)))
+    far-cast = lasting-fits (read w64 (read w64 end -ℤ read w64 start)) e
+
+    pub far-stated : lasts.Stated (lasting.Seconds (natAbs (read w64 (read w64 end -ℤ read w64 start)))) ≡ lastsFrom (Instant start) (Instant end)
+    far-stated = rw (← far-is) (rw (between-tested (read w64 (read w64 end -ℤ read w64 start)), e) refl)
+
+  pub far-out : tested (read w64 (read w64 end -ℤ read w64 start)) ≡ false → lasts.OutOfRange ≡ lastsFrom (Instant start) (Instant end)
+  far-out e = rw (← far-is) (rw (between-tested (read w64 (read w64 end -ℤ read w64 start)), e) refl)
+
+-- ---- instants that a match gave
+
+-- an instant that is handed on
+pub start-given : (effective sent : Time) (i : ℤ) → effective ≡ Instant i → mag i < 9_223_372_036_854_775_808 → Instant (read w64 i) ≡ startOf effective sent
+start-given effective sent i e h = rw e (ap Instant (read-given i h))
+
+module _ (t : Time) (i : ℤ) (is : t ≡ Instant i) (near : isNear t) where
+  near-instant : natAbs i ≤ 300_000_000_000
+  near-instant = subst isNear is near
+
+  instant-read : read w64 i ≡ i
+  instant-read = read-small i (omega (arith, near-instant))
+
+  pub near-read : natAbs (read w64 i) ≤ 300_000_000_000
+  near-read = rw instant-read near-instant
+
+pub lasts-given :
+    (start expires : Time) (i e : ℤ) → start ≡ Instant i → expires ≡ Instant e → isNear start × isNear expires
+    → lastsFrom (Instant (read w64 i)) (Instant (read w64 e)) ≡ lastsFrom start expires
+lasts-given start expires i e p q near =
+    rw (instant-read start i p (near .0), instant-read expires e q (near .1), p, q) refl

@@ -1,0 +1,75 @@
+-- What is seen so far gives the whole document's view from each mode on; each construct leads on.
+use mathlib.Core.Path.{refl, sym, _∙_}
+use Prim.Native.Nat.{_-_}
+use native.Mathlib.Omega.{arith}
+use lib.ListN.{length}
+use borrow.Author.Needs.{needs}
+use Rattle.document.specs.Documents.{begin, readFrom}
+use Rattle.document.proofs.Ahead.{ahead}
+use Rattle.parts.specs.declared.View.the-variants as view
+use Rattle.parts.specs.Gathering.{seen, noShapes, viewFrom}
+use Rattle.parts.proofs.Keeping.{shapes-total}
+use Rattle.parts.proofs.Along.{Along, along-begin, along-room, along-next, along-done, along-refused}
+use Rattle.parts.proofs.areas.read_from.Statement.{statement}
+use Rattle.parts.proofs.areas.read_from.Tie as tie
+
+abbrev Inv-loop : tie.InvT-loop
+Inv-loop s part place at m₀ f₀ m f = Along view.Accepted view.Refused (seen place) (λ f. f .total) s (viewFrom place (noShapes part) (readFrom s (begin at))) m f
+
+abbrev μ-loop : tie.MeasureT-loop
+μ-loop s part place at m₀ f₀ m f = length s - m .at
+
+begin-requires : tie.Need-begin-requires Inv-loop μ-loop
+begin-requires c κs = search needs
+
+no-shapes-requires : tie.Need-no-shapes-requires Inv-loop μ-loop
+no-shapes-requires c κs = search needs
+
+loop-holds : tie.Need-loop-holds Inv-loop μ-loop
+loop-holds c = along-begin (c .before .before .before .args .s .now) (c .before .before .before .args .at) (noShapes (c .before .before .before .args .part)) _ _ (c .before .begin .ensures) (c .no-shapes .ensures) refl
+
+take-step-requires : tie.Need-take-step-requires Inv-loop μ-loop
+take-step-requires c κs = search needs
+
+enum-known-step : tie.Need-enum-known-step Inv-loop μ-loop
+enum-known-step c = search needs
+
+see-requires : tie.Need-see-requires Inv-loop μ-loop
+see-requires c κs = omega (arith, along-room (c .before .before .before .before .loop .inv) _ _ (sym (c .before .before .before .take-step .ensures) ∙ c .before .step .given .1))
+
+loop-less : tie.Need-loop-less Inv-loop μ-loop
+loop-less c = let b = ahead _ _ _ _ (sym (c .before .before .before .before .take-step .ensures) ∙ c .before .before .step .given .1) in omega arith
+
+loop-again : tie.Need-loop-again Inv-loop μ-loop
+loop-again c = along-next (c .before .before .before .before .before .loop .inv) (shapes-total (c .before .before .before .before .before .before .before .before .before .args .place)) _ _ _ (sym (c .before .before .before .before .take-step .ensures) ∙ c .before .before .step .given .1) (c .see .ensures)
+
+enum-told : tie.Need-enum-told Inv-loop μ-loop
+enum-told c = search needs
+
+returns : tie.Need-returns Inv-loop μ-loop
+returns c = along-done (c .before .before .before .loop .inv) (sym (c .before .before .take-step .ensures) ∙ c .enum-told .given .1)
+
+enum-known-step-2 : tie.Need-enum-known-step-2 Inv-loop μ-loop
+enum-known-step-2 c = search needs
+
+returns-2 : tie.Need-returns-2 Inv-loop μ-loop
+returns-2 c = along-refused (c .before .before .before .before .loop .inv) _ _ (sym (c .before .before .before .take-step .ensures) ∙ c .before .step2 .given .1)
+
+pub read-from-spec : {M : Type 1} → statement M
+read-from-spec =
+    tie.close
+    (tie.spec
+    Inv-loop
+    μ-loop
+    begin-requires
+    no-shapes-requires
+    loop-holds
+    take-step-requires
+    enum-known-step
+    see-requires
+    loop-less
+    loop-again
+    enum-told
+    returns
+    enum-known-step-2
+    returns-2)

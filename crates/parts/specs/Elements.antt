@@ -1,0 +1,54 @@
+-- The elements of a part, and where the texts stand that a sheet is drawn from.
+use mathlib.Core.Bool.{Bool, cond, _&&_, _||_}
+use mathlib.Core.List.{List, [], _∷_}
+use Prim.Native.Nat.{ℕ, _+_}
+use lib.Dec.{eqb, leb}
+use lib.ListN.{length}
+use Rattle.sheet.specs.declared.Span.{Span}
+use Rattle.sheet.specs.Reading.{spanIn}
+use Rattle.schema.specs.Classes as class
+use Rattle.document.specs.Elements.{Element, opened, text, closed, isStart, total}
+use Rattle.parts.specs.declared.Lookup.{Lookup}
+use Rattle.parts.specs.declared.Lookup.the-variants.{There, Missing}
+
+-- "Parts are the info elements in their order, counted from 1": the elements behind the start of the n-th info and before that of the next;
+-- for 0 those before the first. k infos have started before the elements
+unfoldable pub within : ℕ → ℕ → List Element → List Element
+within k n [] = []
+within k n (x ∷ xs) = cond (isStart class.info x) (within (k + 1) n xs) (cond (eqb k n) (x ∷ within k n xs) (within k n xs))
+
+-- what stands in the alert itself before its first info, and what in the n-th info
+abbrev pub ownOf : List Element → List Element
+ownOf es = within 0 0 es
+
+abbrev pub partOf : ℕ → List Element → List Element
+partOf n es = within 0 n es
+
+-- "counted from 1; a document with none is asked for part 0"; 21: "asked part .. isn't there"
+unfoldable pub lookUp : (part total : ℕ) → Lookup
+lookUp part total = cond ((eqb part 0 && eqb total 0) || (leb 1 part && leb part total)) (There part) Missing
+
+-- where the text of an element stands
+abbrev pub spanOf : ℕ → List ℕ → Span
+spanOf p t = record { start = p; len = length t }
+
+-- where the last text of a class stands; the schema lets each class that is asked for stand once at most
+abbrev pub later : ℕ → Span → Element → Span
+later c s (opened d p) = s
+later c s (text d p t) = cond (eqb d c) (spanOf p t) s
+later c s (closed d) = s
+
+unfoldable pub lastFrom : ℕ → Span → List Element → Span
+lastFrom c s [] = s
+lastFrom c s (x ∷ xs) = lastFrom c (later c s x) xs
+
+-- no text, at no place
+abbrev pub nowhere : Span
+nowhere = record { start = 0; len = 0 }
+
+abbrev pub textAt : ℕ → List Element → Span
+textAt c es = lastFrom c nowhere es
+
+-- the text of a class as a part of the document l; empty where there is none
+abbrev pub textOf : List ℕ → ℕ → List Element → List ℕ
+textOf l c es = spanIn l (textAt c es)

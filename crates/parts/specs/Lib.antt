@@ -1,0 +1,6 @@
+pub mod Elements
+pub mod Codes
+pub mod Sheets
+pub mod Places
+pub mod Gathering
+pub mod Samples

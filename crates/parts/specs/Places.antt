@@ -1,0 +1,77 @@
+-- Whether a place is inside a part: "Asking about a place, likewise: 21, 6".
+use mathlib.Core.Bool.{Bool, true, false, cond, not, _&&_, _||_}
+use mathlib.Core.List.{List, [], _∷_}
+use Prim.Native.Nat.{ℕ}
+use lib.Dec.{eqb}
+use Rattle.coordinates.specs.declared.Place.{Place}
+use Rattle.coordinates.specs.declared.Inclusion.{Inclusion}
+use Rattle.coordinates.specs.declared.Inclusion.the-variants as inclusion
+use Rattle.coordinates.specs.Place.{inRange}
+use Rattle.polygon.specs.Polygon.{polygonHolds}
+use Rattle.circle.specs.Circle.{circleHolds}
+use Rattle.schema.specs.Classes as class
+use Rattle.document.specs.Elements.{Element, opened, text, closed, Verdict, accepted, refused, total}
+use Rattle.document.specs.Documents.{documentOf}
+use Rattle.parts.specs.declared.Lookup.{Lookup}
+use Rattle.parts.specs.declared.Lookup.the-variants.{There, Missing}
+use Rattle.parts.specs.declared.CapPlace.{CapPlace}
+use Rattle.parts.specs.declared.CapPlace.the-variants as placed
+use Rattle.parts.specs.Elements.{partOf, lookUp}
+
+-- a shape is the text of a polygon or of a circle
+abbrev pub isShape : ℕ → Bool
+isShape c = eqb c class.polygon || eqb c class.circle
+
+abbrev pub isInside : Inclusion → Bool
+isInside inclusion.Inside = true
+isInside inclusion.Outside = false
+isInside inclusion.Fault = false
+
+abbrev pub shapeHolds : Place → ℕ → List ℕ → Bool
+shapeHolds p c t = cond (eqb c class.polygon) (isInside (polygonHolds t p)) (cond (eqb c class.circle) (isInside (circleHolds t p)) false)
+
+-- there is a shape among elements, and one that holds a place
+unfoldable pub anyShape : List Element → Bool
+anyShape [] = false
+anyShape (opened c q ∷ es) = anyShape es
+anyShape (text c q t ∷ es) = isShape c || anyShape es
+anyShape (closed c ∷ es) = anyShape es
+
+unfoldable pub anyHolds : Place → List Element → Bool
+anyHolds p [] = false
+anyHolds p (opened c q ∷ es) = anyHolds p es
+anyHolds p (text c q t ∷ es) = shapeHolds p c t || anyHolds p es
+anyHolds p (closed c ∷ es) = anyHolds p es
+
+-- "A part answers inside if any of its shapes holds the place, else outside, or no shape where it has neither polygon nor circle, as part 0 never has"
+abbrev pub placedAmong : Place → List Element → CapPlace
+placedAmong p es = cond (anyHolds p es) placed.Inside (cond (anyShape es) placed.Outside placed.NoShape)
+
+abbrev pub placedInPart : Place → List Element → Lookup → CapPlace
+placedInPart p es Missing = placed.NotThere
+placedInPart p es (There n) = cond (inRange p) (placedAmong p (partOf n es)) placed.OutOfRange
+
+abbrev pub placedFrom : Place → ℕ → Verdict → CapPlace
+placedFrom p n (accepted es) = placedInPart p es (lookUp n (total es))
+placedFrom p n (refused k q) = placed.Refused k q
+
+-- whether the n-th part of the document l holds a place
+unfoldable pub capPlace : ℕ → Place → List ℕ → CapPlace
+capPlace n p l = placedFrom p n (documentOf l)
+
+-- document 01's number and place for each refusal; 0 for an answer
+abbrev pub placeNumber : CapPlace → ℕ
+placeNumber placed.Inside = 0
+placeNumber placed.Outside = 0
+placeNumber placed.NoShape = 0
+placeNumber placed.NotThere = 21
+placeNumber placed.OutOfRange = 6
+placeNumber (placed.Refused k q) = k
+
+abbrev pub placePlace : CapPlace → ℕ
+placePlace placed.Inside = 0
+placePlace placed.Outside = 0
+placePlace placed.NoShape = 0
+placePlace placed.NotThere = 0
+placePlace placed.OutOfRange = 0
+placePlace (placed.Refused k q) = q

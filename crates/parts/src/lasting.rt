@@ -1,0 +1,46 @@
+// How long a part lasts.
+use crate::Lasts;
+use sheet::Lasting;
+use time::Time;
+ghost use mathlib.Core.Path.{_≡_};
+ghost use Prim.Native.Nat.{_≤_};
+ghost use lib.IntN.{natAbs};
+ghost use Rattle.time.specs.declared.Time.the-variants.{Instant};
+ghost use Rattle.parts.specs.Sheets.{startOf, lastsFrom};
+ghost use Rattle.parts.specs.Gathering.{isNear};
+
+// The time from which a part lasts.
+pub fn start_of(effective: Time, sent: Time) -> Time
+    ensures { λ r. ⌜ r ≡ startOf effective sent ⌝ }
+{
+    match effective {
+        Time::Instant(i) => Time::Instant(i),
+        Time::Fault => sent,
+    }
+}
+
+// How long it is from one instant to another.
+fn lasts_between(start: i64, end: i64) -> Lasts
+    requires { ⌜ (natAbs start ≤ 300_000_000_000) × (natAbs end ≤ 300_000_000_000) ⌝ }
+    ensures { λ r. ⌜ r ≡ lastsFrom (Instant start) (Instant end) ⌝ }
+{
+    let seconds = end - start;
+    if (1 <= seconds) & (seconds <= 31_536_000) {
+        return Lasts::Stated(Lasting::Seconds(seconds as u32));
+    }
+    Lasts::OutOfRange
+}
+
+// How long a part lasts that starts at one time and expires at another.
+pub fn lasts_from(start: Time, expires: Time) -> Lasts
+    requires { ⌜ isNear start × isNear expires ⌝ }
+    ensures { λ r. ⌜ r ≡ lastsFrom start expires ⌝ }
+{
+    match expires {
+        Time::Fault => Lasts::Stated(Lasting::Unstated),
+        Time::Instant(end) => match start {
+            Time::Fault => Lasts::OutOfRange,
+            Time::Instant(i) => lasts_between(i, end),
+        },
+    }
+}
