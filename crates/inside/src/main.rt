@@ -1,0 +1,89 @@
+// Reads one CAP document from standard input and writes for each part whether the place given as arguments is inside it.
+use coordinates::Degrees;
+use coordinates::Place;
+use document::Check;
+use libc::STDIN_FILENO;
+use libc::STDOUT_FILENO;
+use parts::CapPlace;
+
+fn print(text: &[u8]) {
+    io::write_all(STDOUT_FILENO, text);
+}
+
+fn print_refusal(number: u64, place: u64) {
+    print(b"refused ");
+    io::print_decimal(STDOUT_FILENO, number);
+    print(b" at ");
+    io::print_decimal(STDOUT_FILENO, place);
+    print(b"\n");
+}
+
+fn print_usage() {
+    print(
+        b"usage: inside LATITUDE LONGITUDE < DOCUMENT (degrees, south and west negative, at most seven decimals)\n",
+    );
+}
+
+// Writes the answer of a part.
+fn print_part(document: &[u8], part: usize, place: Place) {
+    let answer = parts::cap_place(document, part, place);
+    match answer {
+        CapPlace::Inside => print(b"inside\n"),
+        CapPlace::Outside => print(b"outside\n"),
+        CapPlace::NoShape => print(b"no shape\n"),
+        CapPlace::NotThere => print_refusal(21, 0),
+        CapPlace::OutOfRange => print_refusal(6, 0),
+        CapPlace::Refused(number, at) => print_refusal(number as u64, at as u64),
+    }
+}
+
+// Writes the answers of all parts, or of part 0 where there are none.
+fn print_parts(document: &[u8], total: usize, place: Place) {
+    if total == 0 {
+        print_part(document, 0, place);
+        return;
+    }
+    let mut part = 0;
+    while part < total {
+        part += 1;
+        print_part(document, part, place);
+    }
+}
+
+fn answer(place: Place) {
+    let mut document = [0u8; 65537]; // one byte more than a document may have
+    let n = io::read_full(STDIN_FILENO, &mut document);
+    let checked = document::check_document(&document[..n]);
+    match checked {
+        Check::Accepted(total) => print_parts(&document[..n], total, place),
+        Check::Refused(number, at) => print_refusal(number as u64, at as u64),
+    }
+}
+
+// A latitude or longitude out of an argument.
+fn degrees(i: usize) -> Degrees {
+    let mut word = [0u8; 32];
+    let n = os::arg(i, &mut word);
+    if i == 1 {
+        return coordinates::read_latitude(&word[..n]);
+    }
+    coordinates::read_longitude(&word[..n])
+}
+
+fn main() {
+    if os::arg_count() != 3 {
+        print_usage();
+        return;
+    }
+    let latitude = degrees(1);
+    let longitude = degrees(2);
+    let Degrees::Units(lat) = latitude else {
+        print_usage();
+        return;
+    };
+    let Degrees::Units(lon) = longitude else {
+        print_usage();
+        return;
+    };
+    answer(Place { lat: lat, lon: lon });
+}

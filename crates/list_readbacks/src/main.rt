@@ -1,0 +1,108 @@
+// Reads a text of read-backs from standard input, of at most 262,144 bytes, and lists them, each written anew from its sheet; or writes where the text
+// isn't read-backs.
+use libc::STDIN_FILENO;
+use libc::STDOUT_FILENO;
+use sheet::Found;
+use sheet::ReadBack;
+use sheet::Wrote;
+ghost use Prim.Native.Nat.{_≤_};
+ghost use lib.ListN.{length};
+
+fn print(text: &[u8]) {
+    io::write_all(STDOUT_FILENO, text);
+}
+
+fn print_refusal(number: u64, place: u64) {
+    print(b"refused ");
+    io::print_decimal(STDOUT_FILENO, number);
+    print(b" at ");
+    io::print_decimal(STDOUT_FILENO, place);
+    print(b"\n");
+}
+
+fn print_written(sentence: &[u8], wrote: Wrote) {
+    let Wrote::End(end) = wrote else {
+        return;
+    };
+    if end <= sentence.len() {
+        print(&sentence[..end]);
+    }
+}
+
+fn part(text: &[u8], start: usize, len: usize) -> &[u8] {
+    text::first(text::skip(text, start), len)
+}
+
+// Writes the sentence of a sheet that was found in a text.
+fn print_found(text: &[u8], found: Found) {
+    let mut sentence = [0u8; 1024];
+    match found {
+        Found::Cap(facts, sender, name) => {
+            let from = part(text, sender.start, sender.len);
+            let wrote = readback::write_cap(
+                &mut sentence,
+                0,
+                facts,
+                from,
+                part(text, name.start, name.len),
+            );
+            print_written(&sentence, wrote);
+        }
+        Found::Warn(facts) => {
+            let wrote = readback::write_warn(&mut sentence, 0, facts);
+            print_written(&sentence, wrote);
+        }
+    }
+}
+
+// Writes the read-back of a line, from its sheet.
+fn print_line(line: &[u8]) {
+    let answer = reader::read_back(line, 1);
+    match answer {
+        ReadBack::Sheet(total, found) => print_found(line, found),
+        ReadBack::Count(total) => {}
+        ReadBack::NotReadBack(place) => print_refusal(23, place as u64),
+        ReadBack::NotThere => print_refusal(21, 0),
+    }
+}
+
+// The place behind the next newline, or the text's end.
+fn line_end(text: &[u8], at: usize) -> usize
+    requires { ⌜ at ≤ length (now text) ⌝ }
+    ensures { λ r. ⌜ (at ≤ r) × (r ≤ length (now (text .entry))) ⌝ }
+{
+    let mut i = at;
+    while i < text.len() {
+        i += 1;
+        if text[i - 1] == b'\n' {
+            return i;
+        }
+    }
+    i
+}
+
+// Writes how many read-backs there are, and each of them.
+fn list(text: &[u8], total: usize) {
+    io::print_decimal(STDOUT_FILENO, total as u64);
+    print(b" read-backs\n");
+    let mut at = 0;
+    let mut k: usize = 0;
+    while k < total {
+        let end = line_end(text, at);
+        print_line(&text[at..end]);
+        at = end;
+        k += 1;
+    }
+}
+
+fn main() {
+    let mut buffer = [0u8; 262144];
+    let n = io::read_full(STDIN_FILENO, &mut buffer);
+    let answer = reader::read_back(&buffer[..n], 0);
+    match answer {
+        ReadBack::Count(total) => list(&buffer[..n], total),
+        ReadBack::Sheet(total, found) => {}
+        ReadBack::NotReadBack(place) => print_refusal(23, place as u64),
+        ReadBack::NotThere => print_refusal(21, 0),
+    }
+}

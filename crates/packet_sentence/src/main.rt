@@ -1,0 +1,46 @@
+// Reads one WARN packet from standard input and writes its sentence, or its refusal.
+use libc::STDIN_FILENO;
+use libc::STDOUT_FILENO;
+use packet::Fault;
+use packet::PacketSheet;
+use sheet::WarnFacts;
+use sheet::Wrote;
+
+fn fault_number(fault: Fault) -> u64 {
+    match fault {
+        Fault::Short => 1,
+        Fault::NotWarn => 2,
+        Fault::Version => 3,
+        Fault::NotAlert => 4,
+        Fault::Long => 5,
+        Fault::Range => 6,
+        Fault::Lasting => 7,
+    }
+}
+
+fn print_sentence(facts: WarnFacts) {
+    let mut sentence = [0u8; 1024];
+    let wrote = readback::write_warn(&mut sentence, 0, facts);
+    let Wrote::End(end) = wrote else {
+        return;
+    };
+    if end <= 1024 {
+        io::write_all(STDOUT_FILENO, &sentence[..end]);
+    }
+}
+
+fn print_refusal(fault: Fault) {
+    io::write_all(STDOUT_FILENO, b"refused ");
+    io::print_decimal(STDOUT_FILENO, fault_number(fault));
+    io::write_all(STDOUT_FILENO, b" at 0\n");
+}
+
+fn main() {
+    let mut packet = [0u8; 1201]; // one byte more than a packet may have
+    let n = io::read_full(STDIN_FILENO, &mut packet);
+    let drawn = packet::packet_sheet(&packet[..n]);
+    match drawn {
+        PacketSheet::Sheet(facts) => print_sentence(facts),
+        PacketSheet::Refused(fault) => print_refusal(fault),
+    }
+}

@@ -1,0 +1,6 @@
+pub mod Behind
+pub mod Decimal
+pub mod Refusing
+pub mod Drawing
+pub mod Following
+pub mod Reports
