@@ -2,9 +2,8 @@
 use mathlib.Core.Path.{_≡_, refl, sym, _∙_, ap}
 use mathlib.Core.Bool.{Bool, true, false, cond, not}
 use mathlib.Core.List.{List}
-use Prim.Native.Nat.{ℕ, _≤_, _<_}
+use Prim.Native.Nat.{ℕ, _≤_}
 use native.Mathlib.Nat.{le-refl}
-use borrow.Author.Tests.{lt-ltb, le-ltb}
 use lib.Dec.{ltb}
 use lib.ListN.{length, getD, set, length-set}
 use lib.Seq.{set-out}
@@ -14,25 +13,19 @@ use Rattle.packet.specs.declared.Packet.{Packet}
 use Rattle.packet.specs.declared.Packet.the-variants as packet
 use Rattle.packet.specs.Packet.{packetOf}
 use Rattle.events.specs.declared.Entry.{Entry}
+use Rattle.events.specs.declared.Receipt.{Receipt}
 use Rattle.events.specs.declared.Receipt.the-variants.{Accepted, Late, UnknownKey, Unverified, NotAbove, Full, Refused}
-use Rattle.events.specs.declared.Position.the-variants.{At, Nowhere}
 use Rattle.events.specs.declared.checks.Checked.{Checked}
-use Rattle.events.specs.declared.checks.Checked.the-variants.{Passed, Stopped}
 use Rattle.events.specs.declared.plans.Places.{Places}
 use Rattle.events.specs.declared.plans.Plan.{Plan}
 use Rattle.events.specs.Table.{blank, placeOf, freePlace, positionOf, renewed, fresh, Outcome, outcome, again, anew, judged, isLate, isListed, heard, received}
-use Rattle.events.specs.Steps.{checkedFields, checked, scanned, merged, storing, refusing, planned, carriedOut, accepting}
+use Rattle.events.specs.Steps.{stopped, passing, checkedFields, checked, scanned, positionIn, merged, storing, refusing, planned, decided, carriedOut, accepting}
 
 -- ---- where an event stands
 
-module _ (key event : ℕ) (es : List Entry) (s : Places) (e : s ≡ scanned key event es) (n : ℕ) (long : length es ≡ n) where
-  pub position-at : s .known < n → At (s .known) ≡ positionOf key event es
-  unfolding positionOf
-  position-at h = rw (long, ← ap (λ (p : Places). p .known) e, lt-ltb _ _ h)
-
-  pub position-nowhere : n ≤ s .known → Nowhere ≡ positionOf key event es
-  unfolding positionOf
-  position-nowhere h = rw (long, ← ap (λ (p : Places). p .known) e, le-ltb _ _ h)
+pub position-is : (key event : ℕ) (es : List Entry) (s : Places) → s ≡ scanned key event es → (n : ℕ) → length es ≡ n → positionIn (s .known) n ≡ positionOf key event es
+unfolding positionOf
+position-is key event es s e n long = rw (long, e)
 
 -- ---- the plan
 
@@ -49,32 +42,32 @@ carried-cases es k j x y true false w = ap (outcome NotAbove) (set-out es (lengt
 carried-cases es k j x y false u true = refl
 carried-cases es k j x y false u false = ap (outcome Full) (set-out es (length es) blank (le-refl (length es)))
 
-pub accepting-is : (clock : ℕ) (f : Fields) (es : List Entry) → accepting (fresh clock f) es ≡ judged clock f es
+pub accepting-is : (clock : ℕ) (f : Fields) (es : List Entry) → accepting (passing (fresh clock f)) es ≡ judged clock f es
 unfolding accepting planned judged again anew
 accepting-is clock f es =
     carried-cases es (placeOf (f .key) (f .event) es) (freePlace es)
     (renewed clock f (getD es (placeOf (f .key) (f .event) es) blank)) (fresh clock f)
     (ltb (placeOf (f .key) (f .event) es) (length es)) (ltb (getD es (placeOf (f .key) (f .event) es) blank .sequence) (f .sequence)) (ltb (freePlace es) (length es))
 
-module _ (es : List Entry) (new : Entry) (s : Places) (e : s ≡ scanned (new .key) (new .event) es) (n : ℕ) (long : length es ≡ n) (p : Plan) (q : p ≡ planned s n new) where
-  pub stored-is : outcome (p .receipt) (set es (p .at) (p .entry)) ≡ accepting new es
+-- a packet that is refused leaves the entries
+pub stopped-is : (r : Receipt) (es : List Entry) → accepting (stopped r) es ≡ outcome r es
+unfolding accepting carriedOut
+stopped-is r es = ap (outcome r) (set-out es (length es) blank (le-refl (length es)))
+
+module _ (es : List Entry) (c : Checked) (s : Places) (e : s ≡ scanned (c .entry .key) (c .entry .event) es) (n : ℕ) (long : length es ≡ n) (p : Plan) (q : p ≡ decided s n c) where
+  pub stored-is : outcome (p .receipt) (set es (p .at) (p .entry)) ≡ accepting c es
   unfolding accepting carriedOut
   stored-is = rw (q, e, long)
 
   -- a place past the entries: nothing is stored
-  pub unstored-is : n ≤ p .at → outcome (p .receipt) es ≡ accepting new es
+  pub unstored-is : n ≤ p .at → outcome (p .receipt) es ≡ accepting c es
   unstored-is h = ap (outcome (p .receipt)) (sym (set-out es (p .at) (p .entry) (rw long h))) ∙ stored-is
 
 -- ---- the checks
 
--- what a packet comes to, by the checks before the table
-abbrev pub answered : Checked → List Entry → Outcome
-answered (Stopped r) es = outcome r es
-answered (Passed new) es = accepting new es
-
 module _ (keys : List ℕ) (verdict : Bool) (clock : ℕ) where
-  pub refused-is : (q r : Packet) → q ≡ r → (e : Fault) → q ≡ packet.Refused e → Stopped (Refused e) ≡ checked keys verdict clock r
-  refused-is q r a e b = rw (← a, b)
+  pub refused-is : (q r : Packet) → q ≡ r → (e : Fault) → q ≡ packet.Refused e → (x : Checked) → x ≡ stopped (Refused e) → x ≡ checked keys verdict clock r
+  refused-is q r a e b x c = rw (← a, b) c
 
   pub checked-is : (q r : Packet) → q ≡ r → (f : Fields) → q ≡ packet.Alert f → (x : Checked) → x ≡ checkedFields keys verdict clock f → x ≡ checked keys verdict clock r
   checked-is q r a f b x c = rw (← a, b) c
@@ -82,33 +75,29 @@ module _ (keys : List ℕ) (verdict : Bool) (clock : ℕ) where
   module _ (es : List Entry) where
     heard-cases : (f : Fields) (t u w : Bool)
         → cond t (outcome Late es) (cond (not u) (outcome UnknownKey es) (cond (not w) (outcome Unverified es) (judged clock f es)))
-        ≡ answered (cond t (Stopped Late) (cond (not u) (Stopped UnknownKey) (cond (not w) (Stopped Unverified) (Passed (fresh clock f))))) es
-    heard-cases f true u w = refl
-    heard-cases f false false w = refl
-    heard-cases f false true false = refl
+        ≡ accepting (cond t (stopped Late) (cond (not u) (stopped UnknownKey) (cond (not w) (stopped Unverified) (passing (fresh clock f))))) es
+    heard-cases f true u w = sym (stopped-is Late es)
+    heard-cases f false false w = sym (stopped-is UnknownKey es)
+    heard-cases f false true false = sym (stopped-is Unverified es)
     heard-cases f false true true = sym (accepting-is clock f es)
 
-    heard-is : (q : Packet) → heard keys verdict clock es q ≡ answered (checked keys verdict clock q) es
+    heard-is : (q : Packet) → heard keys verdict clock es q ≡ accepting (checked keys verdict clock q) es
     unfolding checkedFields
-    heard-is (packet.Refused e) = refl
+    heard-is (packet.Refused e) = sym (stopped-is (Refused e) es)
     heard-is (packet.Alert f) = heard-cases f (isLate clock) (isListed keys (f .key)) verdict
 
-    module _ (p : List ℕ) where
-      pub received-is : received es p keys verdict clock ≡ answered (checked keys verdict clock (packetOf p)) es
-      unfolding received
-      received-is = heard-is (packetOf p)
+    -- the checks, then the table's own
+    pub received-is : (p : List ℕ) → received es p keys verdict clock ≡ accepting (checked keys verdict clock (packetOf p)) es
+    unfolding received
+    received-is p = heard-is (packetOf p)
 
-      pub answered-is : (q : Checked) → q ≡ checked keys verdict clock (packetOf p) → (r : Checked) → q ≡ r → answered r es ≡ received es p keys verdict clock
-      answered-is q a r b = rw (received-is, ← a, b)
-
-answered-length : (es : List Entry) (q : Checked) → length (answered q es .entries) ≡ length es
+pub accepting-length : (c : Checked) (es : List Entry) → length (accepting c es .entries) ≡ length es
 unfolding accepting carriedOut
-answered-length es (Stopped r) = refl
-answered-length es (Passed new) = length-set es _ _
+accepting-length c es = length-set es _ _
 
 -- ---- what holds of every outcome
 
 -- the table keeps its number of entries
 pub received-length : (es : List Entry) (p keys : List ℕ) (verdict : Bool) (clock : ℕ) → length (received es p keys verdict clock .entries) ≡ length es
 received-length es p keys verdict clock =
-    ap (λ (o : Outcome). length (o .entries)) (received-is keys verdict clock es p) ∙ answered-length es (checked keys verdict clock (packetOf p))
+    ap (λ (o : Outcome). length (o .entries)) (received-is keys verdict clock es p) ∙ accepting-length (checked keys verdict clock (packetOf p)) es

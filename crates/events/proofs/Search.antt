@@ -56,27 +56,27 @@ module _ (f : Entry → Bool) where
   place-none [] n = refl
   place-none (e ∷ es) n = rw (n 0 (suc-le-suc zero-le)) (ap suc (place-none es (λ k h. n (suc k) (suc-le-suc h))))
 
-  next-suc : (k n : ℕ) (t : Bool) → suc (nextPlace k n t) ≡ nextPlace (suc k) (suc n) t
+  next-suc : (k n : ℕ) (t : Bool) → suc (nextPlace k n (n + 1) t) ≡ nextPlace (suc k) (suc n) (suc n + 1) t
   next-suc k n t = cases (ltb k n) t refl
     where
-      cases : (y t′ : Bool) → ltb k n ≡ y → suc (cond y k (cond t′ n (n + 1))) ≡ nextPlace (suc k) (suc n) t′
+      cases : (y t′ : Bool) → ltb k n ≡ y → suc (cond y k (cond t′ n (n + 1))) ≡ nextPlace (suc k) (suc n) (suc n + 1) t′
       cases true t′ e = let h : suc k < suc n = omega (arith, ltb-true k n e) in simp (lt-ltb _ _ h)
       cases false true e = let h : suc n ≤ suc k = omega (arith, ltb-false k n e) in simp (le-ltb _ _ h)
       cases false false e = let h : suc n ≤ suc k = omega (arith, ltb-false k n e) in simp (le-ltb _ _ h) (omega arith)
 
   -- one entry more
-  pub place-snoc : (es : List Entry) (e : Entry) → firstPlace f (es ++ (e ∷ [])) ≡ nextPlace (firstPlace f es) (length es) (f e)
+  pub place-snoc : (es : List Entry) (e : Entry) → firstPlace f (es ++ (e ∷ [])) ≡ nextPlace (firstPlace f es) (length es) (length es + 1) (f e)
   unfolding firstPlace
   place-snoc [] e = refl
   place-snoc (b ∷ es) e = cases (f b) (place-snoc es e)
     where
-      cases : (t : Bool) → firstPlace f (es ++ (e ∷ [])) ≡ nextPlace (firstPlace f es) (length es) (f e)
-          → cond t 0 (suc (firstPlace f (es ++ (e ∷ [])))) ≡ nextPlace (cond t 0 (suc (firstPlace f es))) (suc (length es)) (f e)
+      cases : (t : Bool) → firstPlace f (es ++ (e ∷ [])) ≡ nextPlace (firstPlace f es) (length es) (length es + 1) (f e)
+          → cond t 0 (suc (firstPlace f (es ++ (e ∷ [])))) ≡ nextPlace (cond t 0 (suc (firstPlace f es))) (suc (length es)) (suc (length es) + 1) (f e)
       cases true p = let h : 0 < suc (length es) = omega arith in simp (lt-ltb _ _ h)
       cases false p = ap suc p ∙ next-suc (firstPlace f es) (length es) (f e)
 
 entry-snoc : (es : List Entry) (e : Entry) (k : ℕ) (t : Bool)
-    → getD (es ++ (e ∷ [])) (nextPlace k (length es) t) blank ≡ nextEntry k (length es) t (getD es k blank) e
+    → getD (es ++ (e ∷ [])) (nextPlace k (length es) (length es + 1) t) blank ≡ nextEntry k (length es) t (getD es k blank) e
 entry-snoc es e k t = cases (ltb k (length es)) t refl
   where
     cases : (y t′ : Bool) → ltb k (length es) ≡ y
@@ -87,11 +87,11 @@ entry-snoc es e k t = cases (ltb k (length es)) t refl
 
 -- ---- one pass over the entries
 
-scanned-snoc : (key event : ℕ) (es : List Entry) (e : Entry) → scanned key event (es ++ (e ∷ [])) ≡ scanStep (scanned key event es) e (length es) key event
+scanned-snoc : (key event : ℕ) (es : List Entry) (e : Entry) → scanned key event (es ++ (e ∷ [])) ≡ scanStep (scanned key event es) e (length es) (length es + 1) key event
 scanned-snoc key event es e =
     rw (place-snoc (isOf key event) es e, place-snoc isFree es e) (ap (λ (x : Entry). record {
-      known = nextPlace (firstPlace (isOf key event) es) (length es) (isOf key event e);
-      free = nextPlace (firstPlace isFree es) (length es) (isFree e);
+      known = nextPlace (firstPlace (isOf key event) es) (length es) (length es + 1) (isOf key event e);
+      free = nextPlace (firstPlace isFree es) (length es) (length es + 1) (isFree e);
       entry = x;
     }) (entry-snoc es e (firstPlace (isOf key event) es) (isOf key event e)))
 
@@ -100,14 +100,14 @@ module _ (key event : ℕ) (es : List Entry) where
   unfolding firstPlace
   scanned-none = refl
 
-  scanned-more : (i : ℕ) → i < length es → scanned key event (take (i + 1) es) ≡ scanStep (scanned key event (take i es)) (getD es i blank) i key event
+  scanned-more : (i : ℕ) → i < length es → scanned key event (take (i + 1) es) ≡ scanStep (scanned key event (take i es)) (getD es i blank) i (i + 1) key event
   scanned-more i h =
       ap (scanned key event) (ap (λ (j : ℕ). take j es) (add-one i) ∙ take-suc es i blank h)
       ∙ (scanned-snoc key event (take i es) (getD es i blank)
-      ∙ ap (λ (n : ℕ). scanStep (scanned key event (take i es)) (getD es i blank) n key event) (length-take-le i es (omega arith)))
+      ∙ ap (λ (n : ℕ). scanStep (scanned key event (take i es)) (getD es i blank) n (n + 1) key event) (length-take-le i es (omega arith)))
 
   -- a step from what is found among the first i entries
-  pub scanned-next : (i : ℕ) → i < length es → (s r : Places) → s ≡ scanned key event (take i es) → r ≡ scanStep s (getD es i blank) i key event
+  pub scanned-next : (i : ℕ) → i < length es → (s r : Places) → s ≡ scanned key event (take i es) → r ≡ scanStep s (getD es i blank) i (i + 1) key event
       → r ≡ scanned key event (take (i + 1) es)
   scanned-next i h s r a b = b ∙ (rw a (sym (scanned-more i h)))
 

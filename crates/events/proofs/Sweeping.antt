@@ -4,7 +4,7 @@ use mathlib.Core.List.{List, [], _∷_, _++_, append-nil}
 use Prim.Native.Nat.{ℕ, zero, suc, _+_, _≤_, _<_}
 use native.Mathlib.Numerals.{add-one}
 use native.Mathlib.Omega.{arith}
-use lib.ListN.{length, getD, take, drop, set, drop-of-length-le}
+use lib.ListN.{length, getD, take, drop, set, drop-of-length-le, length-append, take-append-drop}
 use lib.Seq.{drop-cons, take-suc, take-all, length-take-le, set-at, getD-at, append-snoc}
 use Rattle.events.specs.declared.Entry.{Entry}
 use Rattle.events.specs.Table.{blank, swept, sweptAll}
@@ -38,6 +38,11 @@ module _ (time : ℕ) (es : List Entry) where
 
   pub swept-to-all : (i : ℕ) → length es ≤ i → sweptTo time es i ≡ sweptAll time es
   swept-to-all i h = rw (drop-of-length-le es h, take-all i es h) (append-nil _)
+
+  pub swept-to-length : (i : ℕ) → length (sweptTo time es i) ≡ length es
+  swept-to-length i =
+      length-append (sweptAll time (take i es)) (drop i es) ∙ ap (λ (k : ℕ). k + length (drop i es)) (swept-length time (take i es))
+      ∙ sym (length-append (take i es) (drop i es)) ∙ ap length (take-append-drop i es)
 
   module _ (i : ℕ) (h : i < length es) where
     at-place : length (sweptAll time (take i es)) ≡ i

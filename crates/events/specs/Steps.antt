@@ -1,7 +1,7 @@
 -- What the functions of src/ hand each other on the way to `received`: the checks before the table, what one pass over the entries finds, and what is then stored.
-use mathlib.Core.Bool.{Bool, cond, not}
+use mathlib.Core.Bool.{Bool, true, false, cond, not}
 use mathlib.Core.List.{List}
-use Prim.Native.Nat.{ℕ, _+_}
+use Prim.Native.Nat.{ℕ}
 use lib.Dec.{ltb}
 use lib.ListN.{length, getD, set}
 use Rattle.packet.specs.declared.Fields.{Fields}
@@ -12,22 +12,29 @@ use Rattle.events.specs.declared.Receipt.{Receipt}
 use Rattle.events.specs.declared.Receipt.the-variants.{Accepted, Late, UnknownKey, Unverified, NotAbove, Full, Refused}
 use Rattle.events.specs.declared.Received.{Received}
 use Rattle.events.specs.declared.checks.Checked.{Checked}
-use Rattle.events.specs.declared.checks.Checked.the-variants.{Passed, Stopped}
+use Rattle.events.specs.declared.Position.{Position}
+use Rattle.events.specs.declared.Position.the-variants.{At, Nowhere}
 use Rattle.events.specs.declared.plans.Places.{Places}
 use Rattle.events.specs.declared.plans.Plan.{Plan}
 use Rattle.events.specs.Table.{isOf, isFree, blank, placeOf, freePlace, fresh, isLate, isListed, Outcome, outcome}
 
 -- ---- the checks before the table: the entry that the packet makes for a new event, or the refusal
 
+abbrev pub stopped : Receipt → Checked
+stopped r = record { passed = false; receipt = r; entry = blank }
+
+abbrev pub passing : Entry → Checked
+passing e = record { passed = true; receipt = Accepted; entry = e }
+
 unfoldable pub checkedFields : List ℕ → Bool → ℕ → Fields → Checked
 checkedFields keys verdict clock f =
-    cond (isLate clock) (Stopped Late)
-    (cond (not (isListed keys (f .key))) (Stopped UnknownKey)
-    (cond (not verdict) (Stopped Unverified)
-    (Passed (fresh clock f))))
+    cond (isLate clock) (stopped Late)
+    (cond (not (isListed keys (f .key))) (stopped UnknownKey)
+    (cond (not verdict) (stopped Unverified)
+    (passing (fresh clock f))))
 
 abbrev pub checked : List ℕ → Bool → ℕ → Packet → Checked
-checked keys verdict clock (packet.Refused e) = Stopped (Refused e)
+checked keys verdict clock (packet.Refused e) = stopped (Refused e)
 checked keys verdict clock (packet.Alert f) = checkedFields keys verdict clock f
 
 -- ---- one pass over the entries
@@ -36,19 +43,23 @@ checked keys verdict clock (packet.Alert f) = checkedFields keys verdict clock f
 abbrev pub scanned : ℕ → ℕ → List Entry → Places
 scanned key event es = record { known = placeOf key event es; free = freePlace es; entry = getD es (placeOf key event es) blank }
 
--- the first place that passes among i + 1 entries, from the one among i and whether the next entry passes
-abbrev pub nextPlace : ℕ → ℕ → Bool → ℕ
-nextPlace place i hit = cond (ltb place i) place (cond hit i (i + 1))
+-- the first place that passes, from the one among i entries and whether the next entry passes; `next` where none does
+abbrev pub nextPlace : ℕ → ℕ → ℕ → Bool → ℕ
+nextPlace place i next hit = cond (ltb place i) place (cond hit i next)
 
 abbrev pub nextEntry : ℕ → ℕ → Bool → Entry → Entry → Entry
 nextEntry place i hit old e = cond (ltb place i) old (cond hit e blank)
 
-abbrev pub scanStep : Places → Entry → ℕ → ℕ → ℕ → Places
-scanStep s e i key event = record {
-  known = nextPlace (s .known) i (isOf key event e);
-  free = nextPlace (s .free) i (isFree e);
+abbrev pub scanStep : Places → Entry → ℕ → ℕ → ℕ → ℕ → Places
+scanStep s e i next key event = record {
+  known = nextPlace (s .known) i next (isOf key event e);
+  free = nextPlace (s .free) i next (isFree e);
   entry = nextEntry (s .known) i (isOf key event e) (s .entry) e;
 }
+
+-- a place among n entries
+abbrev pub positionIn : ℕ → ℕ → Position
+positionIn k n = cond (ltb k n) (At k) Nowhere
 
 -- ---- what is stored
 
@@ -70,20 +81,23 @@ storing i e = record { receipt = Accepted; at = i; entry = e }
 abbrev pub refusing : ℕ → Receipt → Plan
 refusing n r = record { receipt = r; at = n; entry = blank }
 
--- among n entries
+-- a packet that passed the checks, among n entries
 unfoldable pub planned : Places → ℕ → Entry → Plan
 planned s n new =
     cond (ltb (s .known) n)
     (cond (ltb (s .entry .sequence) (new .sequence)) (storing (s .known) (merged (s .entry) new)) (refusing n NotAbove))
     (cond (ltb (s .free) n) (storing (s .free) new) (refusing n Full))
 
+abbrev pub decided : Places → ℕ → Checked → Plan
+decided s n c = cond (c .passed) (planned s n (c .entry)) (refusing n (c .receipt))
+
 -- an entry stored past the entries changes nothing
 unfoldable pub carriedOut : Plan → List Entry → Outcome
 carriedOut p es = outcome (p .receipt) (set es (p .at) (p .entry))
 
--- a packet that passed every earlier check
-unfoldable pub accepting : Entry → List Entry → Outcome
-accepting new es = carriedOut (planned (scanned (new .key) (new .event) es) (length es) new) es
+-- a packet after the checks
+unfoldable pub accepting : Checked → List Entry → Outcome
+accepting c es = carriedOut (decided (scanned (c .entry .key) (c .entry .event) es) (length es) c) es
 
 -- ---- an outcome, as a value of the table of 64
 abbrev pub ofOutcome : Outcome → Received

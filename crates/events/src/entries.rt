@@ -1,11 +1,9 @@
 // The rules on one entry, by value.
 use crate::Entry;
-use packet::Fields;
 ghost use mathlib.Core.Path.{_≡_};
 ghost use mathlib.Core.Bool.{cond};
-ghost use Prim.Native.Nat.{_≤_};
 ghost use lib.Dec.{ltb};
-ghost use Rattle.events.specs.Table.{isOf, isFree, blank, fresh, isStale, swept};
+ghost use Rattle.events.specs.Table.{isOf, isFree, blank, isStale, swept};
 ghost use Rattle.events.specs.Steps.{merged};
 
 // Whether an entry is a used one of an event.
@@ -33,21 +31,6 @@ pub fn blank_entry() -> Entry
         sequence: 0,
         cancelled: false,
         keep_until: 0,
-    }
-}
-
-// The entry that a packet makes for a new event. The last clock is 2^64 - 65,536, so that the sum fits.
-pub fn fresh_entry(clock: u64, fields: Fields) -> Entry
-    requires { ⌜ clock ≤ 18_446_744_073_709_486_080 ⌝ }
-    ensures { λ r. ⌜ r ≡ fresh clock fields ⌝ }
-{
-    Entry {
-        used: true,
-        key: fields.key,
-        event: fields.event,
-        sequence: fields.sequence,
-        cancelled: fields.cancel,
-        keep_until: clock + (fields.ttl as u64),
     }
 }
 

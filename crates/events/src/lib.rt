@@ -4,9 +4,9 @@ ghost use mathlib.Core.Path.{_≡_};
 ghost use Rattle.events.specs.Table.{positionOf, received, sweptAll};
 ghost use Rattle.events.specs.Steps.{scanned, accepting, ofOutcome};
 
-mod checks;
-mod entries;
-mod plans;
+pub mod checks;
+pub mod entries;
+pub mod plans;
 
 use checks::Checked;
 use plans::Places;
@@ -54,10 +54,7 @@ pub fn find(table: Table, key: u32, event: u32) -> Position
     ensures { λ r. ⌜ r ≡ positionOf key event (table .entries) ⌝ }
 {
     let places = scan(table, key, event);
-    if places.known < 64 {
-        return Position::At(places.known);
-    }
-    Position::Nowhere
+    plans::position(places, 64)
 }
 
 // A packet is received. `verdict` is the signature chip's, `keys` are the key ids that are listened to.
@@ -65,10 +62,7 @@ pub fn receive(table: Table, packet: &[u8], keys: &[u32], verdict: bool, clock: 
     ensures { λ r. ⌜ r ≡ ofOutcome (received (table .entries) (now (packet .entry)) (now (keys .entry)) verdict clock) ⌝ }
 {
     let checked = checks::check(packet, keys, verdict, clock);
-    match checked {
-        Checked::Stopped(receipt) => Received { receipt, table },
-        Checked::Passed(entry) => accept(table, entry),
-    }
+    accept(table, checked)
 }
 
 // Frees the used entries whose keep-until is below a time.
@@ -93,18 +87,19 @@ fn scan(table: Table, key: u32, event: u32) -> Places
     let mut i: usize = 0;
     while i < 64 {
         let entry = table.entries[i];
-        places = plans::scan_step(places, entry, i, key, event);
+        places = plans::scan_step(places, entry, i, i + 1, key, event);
         i += 1;
     }
     places
 }
 
-// A packet that passed every earlier check; `new` is the entry that it makes for a new event.
-fn accept(table: Table, new: Entry) -> Received
-    ensures { λ r. ⌜ r ≡ ofOutcome (accepting new (table .entries)) ⌝ }
+// A packet after the checks before the table.
+fn accept(table: Table, checked: Checked) -> Received
+    ensures { λ r. ⌜ r ≡ ofOutcome (accepting checked (table .entries)) ⌝ }
 {
+    let new = checked.entry;
     let places = scan(table, new.key, new.event);
-    let plan = plans::decide(places, 64, new);
+    let plan = plans::decide(places, 64, checked);
     let receipt = plan.receipt;
     let at = plan.at;
     let entry = plan.entry;

@@ -1,11 +1,12 @@
 // What one pass over the entries finds, and what is then stored.
 use crate::Entry;
+use crate::Position;
 use crate::Receipt;
+use crate::checks::Checked;
 use crate::entries;
 ghost use mathlib.Core.Path.{_≡_};
 ghost use mathlib.Core.List.{[]};
-ghost use Prim.Native.Nat.{_+_, _<_, _^_};
-ghost use Rattle.events.specs.Steps.{scanned, nextPlace, nextEntry, scanStep, refusing, planned};
+ghost use Rattle.events.specs.Steps.{scanned, nextPlace, nextEntry, scanStep, positionIn, refusing, planned, decided};
 
 // An event's first used entry and its place, and the lowest free place. A place is the number of entries where there is none.
 pub struct Places {
@@ -32,10 +33,9 @@ pub fn no_places() -> Places
     }
 }
 
-// The first place that passes among i + 1 entries, from the one among i and whether the next entry passes.
-fn next_place(place: usize, i: usize, hit: bool) -> usize
-    requires { ⌜ i + 1 < 2 ^ 64 ⌝ }
-    ensures { λ r. ⌜ r ≡ nextPlace place i hit ⌝ }
+// The first place that passes, from the one among i entries and whether the next entry passes; `next` where none does.
+fn next_place(place: usize, i: usize, next: usize, hit: bool) -> usize
+    ensures { λ r. ⌜ r ≡ nextPlace place i next hit ⌝ }
 {
     if place < i {
         return place;
@@ -43,7 +43,7 @@ fn next_place(place: usize, i: usize, hit: bool) -> usize
     if hit {
         return i;
     }
-    i + 1
+    next
 }
 
 // The entry at that place.
@@ -59,18 +59,34 @@ fn next_entry(place: usize, i: usize, hit: bool, old: Entry, entry: Entry) -> En
     entries::blank_entry()
 }
 
-// What is found among i + 1 entries, from what is found among i and the next entry.
-pub fn scan_step(places: Places, entry: Entry, i: usize, key: u32, event: u32) -> Places
-    requires { ⌜ i + 1 < 2 ^ 64 ⌝ }
-    ensures { λ r. ⌜ r ≡ scanStep places entry i key event ⌝ }
+// What is found among one entry more, from what is found among i and that entry; `next` is i + 1.
+pub fn scan_step(
+    places: Places,
+    entry: Entry,
+    i: usize,
+    next: usize,
+    key: u32,
+    event: u32,
+) -> Places
+    ensures { λ r. ⌜ r ≡ scanStep places entry i next key event ⌝ }
 {
     let hit = entries::is_of(key, event, entry);
     let idle = entries::is_free(entry);
     let old = places.entry;
-    let known = next_place(places.known, i, hit);
-    let free = next_place(places.free, i, idle);
+    let known = next_place(places.known, i, next, hit);
+    let free = next_place(places.free, i, next, idle);
     let entry = next_entry(places.known, i, hit, old, entry);
     Places { known, free, entry }
+}
+
+// Where the event stands among n entries.
+pub fn position(places: Places, n: usize) -> Position
+    ensures { λ r. ⌜ r ≡ positionIn (places .known) n ⌝ }
+{
+    if places.known < n {
+        return Position::At(places.known);
+    }
+    Position::Nowhere
 }
 
 // A refusal among n entries.
@@ -84,8 +100,8 @@ fn refusal(n: usize, receipt: Receipt) -> Plan
     }
 }
 
-// What a packet comes to among n entries; `new` is the entry that it makes for a new event.
-pub fn decide(places: Places, n: usize, new: Entry) -> Plan
+// What a packet that passed the checks comes to among n entries; `new` is the entry that it makes for a new event.
+fn plan_passed(places: Places, n: usize, new: Entry) -> Plan
     ensures { λ r. ⌜ r ≡ planned places n new ⌝ }
 {
     let old = places.entry;
@@ -110,4 +126,16 @@ pub fn decide(places: Places, n: usize, new: Entry) -> Plan
         };
     }
     refusal(n, Receipt::Full)
+}
+
+// What a packet comes to among n entries.
+pub fn decide(places: Places, n: usize, checked: Checked) -> Plan
+    ensures { λ r. ⌜ r ≡ decided places n checked ⌝ }
+{
+    let receipt = checked.receipt;
+    let new = checked.entry;
+    if checked.passed {
+        return plan_passed(places, n, new);
+    }
+    refusal(n, receipt)
 }

@@ -23,12 +23,12 @@ element-set-from-entry : tie.Need-element-set-from-entry
 element-set-from-entry c = search needs
 
 returns : tie.Need-returns
-returns c = let s = c .before .before .before .before in
-    ap ofOutcome (stored-is (s .args .table .entries) (s .args .new) _ (c .before .before .before .scan .ensures) 64 (long s) _ (c .before .before .decide .ensures))
+returns c = let s = c .before .before .before .before .before in
+    ap ofOutcome (stored-is (s .args .table .entries) (s .args .checked) _ (c .before .before .before .scan .ensures) 64 (long s) _ (c .before .before .decide .ensures))
 
 returns-2 : tie.Need-returns-2
-returns-2 c = let s = c .before .before .before .before in
-    ap ofOutcome (unstored-is (s .args .table .entries) (s .args .new) _ (c .before .before .before .scan .ensures) 64 (long s) _ (c .before .before .decide .ensures) (c .if1 .left))
+returns-2 c = let s = c .before .before .before .before .before in
+    ap ofOutcome (unstored-is (s .args .table .entries) (s .args .checked) _ (c .before .before .before .scan .ensures) 64 (long s) _ (c .before .before .decide .ensures) (c .if1 .left))
 
 pub accept-spec : {M : Type 1} → statement M
 accept-spec =

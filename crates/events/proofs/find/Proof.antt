@@ -1,7 +1,7 @@
 -- `find`: the pass finds the place, which is below 64 exactly if there is one.
+use mathlib.Core.Path.{_≡_, _∙_}
 use lib.ListN.{length, length-map}
-use mathlib.Core.Path.{_≡_}
-use Rattle.events.proofs.Outcomes.{position-at, position-nowhere}
+use Rattle.events.proofs.Outcomes.{position-is}
 use borrow.Author.Needs.{needs}
 use Rattle.events.proofs.find.Statement.{statement}
 use Rattle.events.proofs.find.Tie as tie
@@ -12,13 +12,12 @@ long s = simp length-map at (s .good .0 .1 .1 .0 .1 .0 .1)
 scan-requires : tie.Need-scan-requires
 scan-requires c κs = search needs
 
-returns : tie.Need-returns
-returns c = let s = c .before .before .before in
-    position-at (s .args .key) (s .args .event) (s .args .table .entries) _ (c .before .before .scan .ensures) 64 (long s) (c .if1 .taken)
+position-requires : tie.Need-position-requires
+position-requires c κs = search needs
 
-returns-2 : tie.Need-returns-2
-returns-2 c = let s = c .before .before .before in
-    position-nowhere (s .args .key) (s .args .event) (s .args .table .entries) _ (c .before .before .scan .ensures) 64 (long s) (c .if1 .left)
+returns : tie.Need-returns
+returns c = let s = c .before .before in
+    c .position .ensures ∙ position-is (s .args .key) (s .args .event) (s .args .table .entries) _ (c .before .scan .ensures) 64 (long s)
 
 pub find-spec : {M : Type 1} → statement M
-find-spec = tie.close (tie.spec scan-requires returns returns-2)
+find-spec = tie.close (tie.spec scan-requires position-requires returns)

@@ -30,6 +30,9 @@ mul-entry c = search needs
 element-copy-out-entry : tie.Need-element-copy-out-entry Inv-loop μ-loop
 element-copy-out-entry c = search needs
 
+add-scan-step : tie.Need-add-scan-step Inv-loop μ-loop
+add-scan-step c = search needs
+
 scan-step-requires : tie.Need-scan-step-requires Inv-loop μ-loop
 scan-step-requires c κs = search needs
 
@@ -60,6 +63,7 @@ scan-spec =
     loop-holds
     mul-entry
     element-copy-out-entry
+    add-scan-step
     scan-step-requires
     add-i
     loop-less

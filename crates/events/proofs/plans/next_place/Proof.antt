@@ -1,6 +1,5 @@
 -- `plans::next_place`: by the two tests.
 use borrow.Author.Tests.{lt-ltb, le-ltb}
-use borrow.Author.Needs.{needs}
 use Rattle.events.proofs.plans.next_place.Statement.{statement}
 use Rattle.events.proofs.plans.next_place.Tie as tie
 
@@ -10,11 +9,8 @@ returns c = simp (lt-ltb _ _ (c .if1 .taken))
 returns-2 : tie.Need-returns-2
 returns-2 c = simp (le-ltb _ _ (c .before .if1 .left), c .if2 .taken)
 
-add-result : tie.Need-add-result
-add-result c = search needs
-
 returns-3 : tie.Need-returns-3
 returns-3 c = simp (le-ltb _ _ (c .before .if1 .left), c .if2 .left)
 
 pub next-place-spec : {M : Type 1} → statement M
-next-place-spec = tie.close (tie.spec returns returns-2 add-result returns-3)
+next-place-spec = tie.close (tie.spec returns returns-2 returns-3)
