@@ -1,0 +1,76 @@
+// A fact sheet that shows its sender and name as parts of a lent text: of the CAP document that it was drawn from, or of the text that it was read
+// out of.
+use sheet::CapFacts;
+use sheet::Span;
+use sheet::Wrote;
+ghost use mathlib.Core.Path.{_≡_};
+ghost use Rattle.sheet.specs.Answers.{wrote, after};
+ghost use Rattle.shown.specs.Slices.{senderIn, nameIn, sheetWith};
+
+// The facts of a CAP sheet, with where its sender and its name stand in a text.
+pub struct Facts {
+    pub facts: CapFacts,
+    pub sender: Span,
+    pub name: Span,
+}
+
+// A sheet that holds the text in which its sender and its name stand.
+pub struct ShownSheet<'a> {
+    pub text: &'a [u8],
+    pub facts: Facts,
+}
+
+// The sender that the facts show in a text.
+pub fn sender_in(text: &[u8], facts: Facts) -> &[u8]
+    ensures { λ r. ⌜ now r ≡ senderIn (now (text .entry)) facts ⌝ }
+{
+    text::first(text::skip(text, facts.sender.start), facts.sender.len)
+}
+
+// The name that the facts show in a text.
+pub fn name_in(text: &[u8], facts: Facts) -> &[u8]
+    ensures { λ r. ⌜ now r ≡ nameIn (now (text .entry)) facts ⌝ }
+{
+    text::first(text::skip(text, facts.name.start), facts.name.len)
+}
+
+// Writes the sentence of the sheet that the facts make with a text. Plain parameters: who has a text and facts needs no sheet that holds a slice.
+pub fn write_shown(buffer: &mut [u8], start: usize, text: &[u8], facts: Facts) -> Wrote
+    ensures { λ r. ⌜ (r ≡ wrote (now (buffer .entry)) start (sheetWith (now (text .entry)) facts)) × (now (buffer .exit) ≡ after (now (buffer .entry)) start (sheetWith (now (text .entry)) facts)) ⌝ }
+{
+    readback::write_cap(
+        buffer,
+        start,
+        facts.facts,
+        sender_in(text, facts),
+        name_in(text, facts),
+    )
+}
+
+// The sheet of facts and the text in which its sender and name stand.
+pub fn make<'a>(text: &'a [u8], facts: Facts) -> ShownSheet<'a>
+    ensures { λ r. ⌜ (r .text ≡ text .entry) × (r .facts ≡ facts) ⌝ }
+{
+    ShownSheet { text, facts }
+}
+
+// The sheet's sender, a part of its text.
+pub fn sender<'a>(s: ShownSheet<'a>) -> &'a [u8]
+    ensures { λ r. ⌜ now r ≡ senderIn (now (s .entry .text)) (s .entry .facts) ⌝ }
+{
+    sender_in(s.text, s.facts)
+}
+
+// The sheet's name, a part of its text.
+pub fn name<'a>(s: ShownSheet<'a>) -> &'a [u8]
+    ensures { λ r. ⌜ now r ≡ nameIn (now (s .entry .text)) (s .entry .facts) ⌝ }
+{
+    name_in(s.text, s.facts)
+}
+
+// The sheet's other facts.
+pub fn facts_of<'a>(s: ShownSheet<'a>) -> CapFacts
+    ensures { λ r. ⌜ r ≡ s .entry .facts .facts ⌝ }
+{
+    s.facts.facts
+}
