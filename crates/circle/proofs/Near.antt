@@ -13,7 +13,7 @@ use mir.Val.{Fits, SFits}
 use mir.Facts.{toZ-ofZ}
 use Rattle.coordinates.specs.declared.Place.{Place}
 use Rattle.coordinates.specs.declared.Inclusion.the-variants.{Inside, Outside, Fault}
-use Rattle.integers.specs.Bits.{read, read-given-32, wide-far}
+use Rattle.integers.specs.Bits.{read, read-given-32, apart}
 use Rattle.integers.specs.Magnitude.{abs-sub-zero}
 use Rattle.circle.specs.Cosine.{cosines}
 use Rattle.circle.specs.Circle.{cosineAt, unitsOf, withinSquares, inCircle, aroundHolds}
@@ -56,22 +56,14 @@ product-fits a k h g = let e : a * k ≤ 4_294_967_295 * 1_000_000 = mul-le-mul 
 
 -- ---- a place near a centre
 
--- the distance that a callee gave
-module _ (a b : ℤ) (r : ℕ) (fa : SFits w32 a) (fb : SFits w32 b) (e : r ≡ natAbs (read w32 a -ℤ read w32 b)) where
-  pub apart : r ≡ natAbs (a -ℤ b)
-  apart = e ∙ rw (toZ-ofZ fa, toZ-ofZ fb)
-
-  pub apart-le : r ≤ 4_294_967_295
-  apart-le = rw apart (wide-far a b fa fb)
-
 module _ (clat clon lat lon : ℤ) (u : ℕ) (f₁ : SFits w32 clat) (f₂ : SFits w32 clon) (f₃ : SFits w32 lat) (f₄ : SFits w32 lon) where
   pub near-is :
       (d k x y : ℕ) (r : Bool) → d ≡ natAbs (read w32 lon -ℤ read w32 clon) → k ≡ cosineAt (read w32 clat) → x ≡ d * k / 1_000_000 → y ≡ natAbs (read w32 lat -ℤ read w32 clat) → r ≡ withinSquares x y u
       → r ≡ withinSquares (natAbs (lon -ℤ clon) * cosineAt clat / 1_000_000) (natAbs (lat -ℤ clat)) u
   near-is d k x y r ed ek ex ey er =
-      let ed′ = apart lon clon d f₄ f₂ ed in
+      let ed′ = apart lon clon f₄ f₂ d ed in
       let ek′ : k ≡ cosineAt clat = ek ∙ ap cosineAt (toZ-ofZ f₁) in
-      let ey′ = apart lat clat y f₃ f₁ ey in
+      let ey′ = apart lat clat f₃ f₁ y ey in
       er ∙ rw (ex, ed′, ek′, ey′)
 
 -- ---- the answer

@@ -102,3 +102,6 @@ module _ (limit i : ℕ) (l : List ℕ) where
   pub not-measured : coordinateAt limit i l ≡ Fault → isCoordinate limit l ≡ false
   unfolding coordinateAt
   not-measured q = second-arm _ _ _ (isCoordinate limit l) q (λ p. fault≢value _ _ (sym p))
+
+  pub coordinate-start : (z : ℤ) (e : ℕ) → coordinateAt limit i l ≡ Value z e → i ≤ e
+  coordinate-start z e q = omega (arith, measured z e q .end)

@@ -2,11 +2,12 @@
 use mathlib.Core.Path.{_≡_, sym, _∙_}
 use mathlib.Core.Bool.{true, false, false≢true}
 use mathlib.Core.List.{List}
-use Prim.Native.Nat.{ℕ, _≤_, _<_}
+use Prim.Native.Nat.{ℕ, _-_, _≤_, _<_}
+use native.Mathlib.Nat.{add-sub-of-le}
 use borrow.Author.Tests.{ltb-true, ltb-false}
 use lib.Dec.{eqb, ltb}
 use lib.ListN.{length, getD, drop, drop-of-length-le}
-use lib.Seq.{drop-cons}
+use lib.Seq.{drop-cons, drop-drop}
 use Rattle.text.specs.Logic.{by-test}
 use Rattle.coordinates.specs.Decimal.{leads}
 
@@ -25,3 +26,7 @@ module _ (s : List ℕ) (i b : ℕ) where
       by-test (ltb i (length s))
       (λ t. ltb-true i (length s) t)
       (λ t. absurd (false≢true (sym (leads-none (ltb-false i (length s) t)) ∙ e)))
+
+-- what stands at a place of the rest from i on, by its place in the text
+pub drop-behind : (s : List ℕ) (i e : ℕ) → i ≤ e → drop (e - i) (drop i s) ≡ drop e s
+drop-behind s i e h = drop-drop (e - i) i s ∙ rw (add-sub-of-le h)

@@ -5,4 +5,5 @@ pub mod Runs
 pub mod Decimals
 pub mod Coordinates
 pub mod Readers
+pub mod Tokens
 pub mod Bounds

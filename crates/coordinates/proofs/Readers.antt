@@ -1,9 +1,9 @@
--- Texts that write a coordinate, a pair or a radius and nothing else, by each way through their readers.
+-- Texts that write a coordinate, a pair or a radius and nothing else, and pairs that lead a text, by each way through their readers.
 use mathlib.Core.Path.{_≡_}
 use mathlib.Core.Bool.{true, false}
 use mathlib.Core.List.{List}
 use Prim.Native.Char.{code}
-use Prim.Native.Nat.{ℕ, _+_, _≤_, _<_}
+use Prim.Native.Nat.{ℕ, _+_, _-_, _≤_, _<_}
 use native.Mathlib.Omega.{arith}
 use borrow.Author.Tests.{eq-eqb, ne-eqb, le-leb, lt-leb}
 use lib.Dec.{leb}
@@ -14,14 +14,16 @@ use mir.Syntax.{w32}
 use Rattle.text.specs.Logic.{and-left}
 use Rattle.integers.specs.Bits.{read, read-given-32}
 use Rattle.coordinates.specs.Decimal.{leads, isDecimal, scaled, decimalLength, decimalAt, radiusOf}
-use Rattle.coordinates.specs.Place.{latitudeLimit, longitudeLimit, signLength, unsigned, coordinateAt, degreesOf, pairOf}
+use Rattle.coordinates.specs.Place.{latitudeLimit, longitudeLimit, signLength, unsigned, coordinateAt, degreesOf, pairOf, leadingPair}
 use Rattle.coordinates.specs.declared.Decimal.the-variants as decimal
 use Rattle.coordinates.specs.declared.Coordinate.the-variants as coordinate
 use Rattle.coordinates.specs.declared.Degrees.the-variants as degrees
 use Rattle.coordinates.specs.declared.Pair.the-variants as pair
+use Rattle.coordinates.specs.declared.LeadingPair.the-variants as leading
 use Rattle.coordinates.specs.declared.Radius.the-variants as radius
+use Rattle.coordinates.proofs.Leading.{drop-behind}
 use Rattle.coordinates.proofs.Decimals.{Written, written, not-written, decimal-some}
-use Rattle.coordinates.proofs.Coordinates.{Measured, measured, not-measured}
+use Rattle.coordinates.proofs.Coordinates.{Measured, measured, not-measured, coordinate-start}
 
 -- ---- a coordinate from the place i to the end
 
@@ -66,6 +68,36 @@ module _ (l : List ℕ) where
     pub both : leads (code ",") (drop e l) ≡ true → (x : ℤ) → degreesOf longitudeLimit (drop (e + 1) l) ≡ degrees.Units x → mag y < 2_147_483_648 → mag x < 2_147_483_648 → pair.At (record { lat = read w32 y; lon = read w32 x }) ≡ pairOf l
     unfolding pairOf
     both h x d gy gx = rw (q, h, d, read-given-32 y gy, read-given-32 x gx)
+
+-- ---- a pair that leads the text from the place i on
+
+module _ (s : List ℕ) (i : ℕ) where
+  pub no-leading-latitude : coordinateAt latitudeLimit i (drop i s) ≡ coordinate.Fault → leading.Fault ≡ leadingPair i (drop i s)
+  unfolding leadingPair
+  no-leading-latitude q = rw q
+
+  module _ (y : ℤ) (e : ℕ) (q : coordinateAt latitudeLimit i (drop i s) ≡ coordinate.Value y e) where
+    start : i ≤ e
+    start = coordinate-start latitudeLimit i (drop i s) y e q
+
+    pub behind-latitude : drop (e - i) (drop i s) ≡ drop e s
+    behind-latitude = drop-behind s i e start
+
+    pub behind-comma : drop (e - i + 1) (drop i s) ≡ drop (e + 1) s
+    behind-comma = let n : e - i + 1 ≡ e + 1 - i = omega (arith, start) in rw n (drop-behind s i (e + 1) (omega (arith, start)))
+
+    pub no-leading-comma : leads (code ",") (drop e s) ≡ false → leading.Fault ≡ leadingPair i (drop i s)
+    unfolding leadingPair
+    no-leading-comma h = rw (q, behind-latitude, h)
+
+    module _ (h : leads (code ",") (drop e s) ≡ true) where
+      pub no-leading-longitude : coordinateAt longitudeLimit (e + 1) (drop (e + 1) s) ≡ coordinate.Fault → leading.Fault ≡ leadingPair i (drop i s)
+      unfolding leadingPair
+      no-leading-longitude d = rw (q, behind-latitude, h, behind-comma, d)
+
+      pub both-lead : (x : ℤ) (k : ℕ) → coordinateAt longitudeLimit (e + 1) (drop (e + 1) s) ≡ coordinate.Value x k → mag y < 2_147_483_648 → mag x < 2_147_483_648 → leading.At (record { lat = read w32 y; lon = read w32 x }) k ≡ leadingPair i (drop i s)
+      unfolding leadingPair
+      both-lead x k d gy gx = rw (q, behind-latitude, h, behind-comma, d, read-given-32 y gy, read-given-32 x gx)
 
 -- ---- a radius
 

@@ -1,7 +1,7 @@
 -- Latitudes, longitudes and pairs of them (document 01, "The packet" and "Is the studio inside"), in units of 1e-7 degree.
 use mathlib.Core.Bool.{Bool, cond, _&&_, _||_}
 use mathlib.Core.List.{List}
-use Prim.Native.Nat.{ℕ, _+_}
+use Prim.Native.Nat.{ℕ, _+_, _-_}
 use Prim.Native.Char.{code}
 use lib.Dec.{eqb, leb}
 use lib.IntN.{ℤ, pos, negℤ}
@@ -14,6 +14,8 @@ use Rattle.coordinates.specs.declared.Degrees.{Degrees}
 use Rattle.coordinates.specs.declared.Degrees.the-variants as degrees
 use Rattle.coordinates.specs.declared.Pair.{Pair}
 use Rattle.coordinates.specs.declared.Pair.the-variants as pair
+use Rattle.coordinates.specs.declared.LeadingPair.{LeadingPair}
+use Rattle.coordinates.specs.declared.LeadingPair.the-variants as leading
 use Rattle.coordinates.specs.Decimal.{leads, isDecimal, scaled, decimalLength}
 
 -- ---- "within 900,000,000 and 1,800,000,000 either way"
@@ -72,3 +74,17 @@ withLatitude l Fault = pair.Fault
 
 unfoldable pub pairOf : List ℕ → Pair
 pairOf l = withLatitude l (coordinateAt latitudeLimit 0 l)
+
+-- the pair that leads a text, and the place behind it
+abbrev pub leadingBehind : ℤ → Coordinate → LeadingPair
+leadingBehind y (Value x e) = leading.At (record { lat = y; lon = x }) e
+leadingBehind y Fault = leading.Fault
+
+-- i is the place of the text l; k the place behind its latitude
+abbrev pub leadingFrom : ℕ → List ℕ → Coordinate → LeadingPair
+leadingFrom i l (Value y k) =
+    cond (leads (code ",") (drop (k - i) l)) (leadingBehind y (coordinateAt longitudeLimit (k + 1) (drop (k - i + 1) l))) leading.Fault
+leadingFrom i l Fault = leading.Fault
+
+unfoldable pub leadingPair : ℕ → List ℕ → LeadingPair
+leadingPair i l = leadingFrom i l (coordinateAt latitudeLimit i l)

@@ -5,7 +5,7 @@ ghost use lib.IntN.{natAbs, _-ℤ_};
 ghost use Prim.Native.Nat.{_≤_};
 ghost use lib.ListN.{drop};
 ghost use Rattle.coordinates.specs.Decimal.{radiusOf};
-ghost use Rattle.coordinates.specs.Place.{latitudeLimit, longitudeLimit, within, inRange, degreesOf, pairOf};
+ghost use Rattle.coordinates.specs.Place.{latitudeLimit, longitudeLimit, within, inRange, degreesOf, pairOf, leadingPair};
 
 mod scan;
 
@@ -50,6 +50,12 @@ pub enum Degrees {
 // A place that a whole text writes.
 pub enum Pair {
     At(Place),
+    Fault,
+}
+
+// A place that leads a text and the place behind it, or that none does.
+pub enum LeadingPair {
+    At(Place, usize),
     Fault,
 }
 
@@ -132,6 +138,24 @@ pub fn read_pair(text: &[u8]) -> Pair
     match x {
         Degrees::Units(lon) => Pair::At(Place { lat, lon }),
         Degrees::Fault => Pair::Fault,
+    }
+}
+
+// The place that stands from `at` on: latitude, comma, longitude. What stands behind it isn't looked at.
+pub fn leading_pair(text: &[u8], at: usize) -> LeadingPair
+    ensures { λ r. ⌜ r ≡ leadingPair at (drop at (now (text .entry))) ⌝ }
+{
+    let y = scan::coordinate_at(text, at, LATITUDE_LIMIT);
+    let Coordinate::Value(lat, comma) = y else {
+        return LeadingPair::Fault;
+    };
+    if !scan::leads(text, comma, b',') {
+        return LeadingPair::Fault;
+    }
+    let x = scan::coordinate_at(text, comma + 1, LONGITUDE_LIMIT);
+    match x {
+        Coordinate::Value(lon, end) => LeadingPair::At(Place { lat, lon }, end),
+        Coordinate::Fault => LeadingPair::Fault,
     }
 }
 

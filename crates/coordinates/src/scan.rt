@@ -10,9 +10,6 @@ ghost use Rattle.coordinates.specs.Decimal.{leads, decimalAt};
 ghost use Rattle.coordinates.specs.Place.{signLength, coordinateAt};
 ghost use Rattle.coordinates.specs.Run.{runOf};
 
-// The powers of ten from 1.
-const TENS: [u64; 8] = [1, 10, 100, 1_000, 10_000, 100_000, 1_000_000, 10_000_000];
-
 // Whether the byte `b` stands at `at`.
 pub fn leads(s: &[u8], at: usize, b: u8) -> bool
     ensures { λ r. ⌜ r ≡ leads b (drop at (now (s .entry))) ⌝ }
@@ -46,12 +43,41 @@ fn digits_at(s: &[u8], at: usize, most: usize) -> Run
     Run::Value(value, i)
 }
 
+// A power of ten. By tests and not from a table, which the compiler would build on the stack at each use.
+fn power_of_ten(power: usize) -> u64
+    requires { ⌜ power ≤ 7 ⌝ }
+    ensures { λ r. ⌜ r ≡ 10 ^ power ⌝ }
+{
+    if power == 0 {
+        return 1;
+    }
+    if power == 1 {
+        return 10;
+    }
+    if power == 2 {
+        return 100;
+    }
+    if power == 3 {
+        return 1_000;
+    }
+    if power == 4 {
+        return 10_000;
+    }
+    if power == 5 {
+        return 100_000;
+    }
+    if power == 6 {
+        return 1_000_000;
+    }
+    10_000_000
+}
+
 // A number of at most 7 digits times a power of ten.
 fn scale(value: u64, power: usize) -> u64
     requires { ⌜ (value < 10_000_000) × (power ≤ 7) ⌝ }
     ensures { λ r. ⌜ (r ≡ value * 10 ^ power) × (r ≤ 100_000_000_000_000) ⌝ }
 {
-    value * TENS[power]
+    value * power_of_ten(power)
 }
 
 // The decimal at `at`: 1 to `whole` digits, optionally a point and 1 to `places` digits, in units of the last of these places.

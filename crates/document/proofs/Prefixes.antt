@@ -1,5 +1,5 @@
 -- Names of tags: behind the document's prefix, and behind their first ":". Each answer of their functions, over plain values.
-use mathlib.Core.Path.{_≡_, refl, sym, ap, _∙_}
+use mathlib.Core.Path.{_≡_, refl, sym, _∙_}
 use mathlib.Core.Bool.{Bool, true, false, _&&_}
 use mathlib.Core.List.{List, [], _∷_, _++_}
 use Prim.Native.Nat.{ℕ, _+_, _≤_, _<_}
@@ -10,19 +10,11 @@ use borrow.Author.Tests.{eq-eqb, ne-eqb, not-false}
 use lib.Dec.{eqb}
 use lib.ListN.{length, drop, drop-of-length-le}
 use Rattle.text.specs.Ascii.{ascii}
-use Rattle.text.specs.Logic.{by-test, and-assoc}
+use Rattle.text.specs.Logic.{by-test}
 use Rattle.text.specs.Parts.{startsWith}
+use Rattle.text.proofs.Parts.{starts-append}
 use Rattle.xml.specs.Bytes.{leading}
 use Rattle.document.specs.Tags.{behindPrefix, isBeforeColon, localName}
-
--- a text leads another if its front does and its rest leads what is behind that
-pub starts-append : (p q l : List ℕ) → startsWith p l && startsWith q (drop (length p) l) ≡ startsWith (p ++ q) l
-unfolding startsWith
-starts-append [] q l = refl
-starts-append (a ∷ p) q [] = refl
-starts-append (a ∷ p) q (b ∷ l) =
-    and-assoc (eqb b a) (startsWith p l) (startsWith q (drop (length p) l))
-    ∙ ap (λ (r : Bool). eqb b a && r) (starts-append p q l)
 
 -- ---- behind the document's prefix
 

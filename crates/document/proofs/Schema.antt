@@ -55,11 +55,11 @@ follow-none (text c p t ∷ es) = rw (next-none c) (follow-none es)
 follow-none (closed c ∷ es) = by-test (eqb c (containerOf 0)) (λ e. rw (e, next-none 0) (follow-none es)) (λ e. rw e)
 
 -- behind an element that stands where it may the row is one of the table's
-taken : (row : ℕ) (es : List Element) → follow row es ≡ over → row ≡ 0 → ⊥
+pub taken : (row : ℕ) (es : List Element) → follow row es ≡ over → row ≡ 0 → ⊥
 taken row es h z = omega (arith, ap (λ (r : ℕ). follow r es) (sym z) ∙ h, follow-none es)
 
 -- an end that stands where it may
-ended-right : (row c : ℕ) (es : List Element) → cond (eqb c (containerOf row)) (follow (nextOf row 0) es) 0 ≡ over → follow (nextOf row 0) es ≡ over
+pub ended-right : (row c : ℕ) (es : List Element) → cond (eqb c (containerOf row)) (follow (nextOf row 0) es) 0 ≡ over → follow (nextOf row 0) es ≡ over
 ended-right row c es h = by-test (eqb c (containerOf row)) (λ e. rw e at h) (λ e. absurd (omega (arith, rw e at h)))
 
 -- behind the alert's start no other follows

@@ -25,7 +25,7 @@ use Rattle.document.specs.declared.Event.the-variants.{Silent, Opened, C
 use Rattle.document.specs.declared.Step.{Step}
 use Rattle.document.specs.declared.Step.the-variants.{Next, Refused}
 use Rattle.document.specs.Tags.{moved, behindPrefix, nameIn, openStep, emptyStep, otherStep, boundStep, alertStep, localName, isAlert, startStep, openClass, closeStep, isRightEnd, endStep, endedStep, tagStep}
-use Rattle.document.proofs.Prefixes.{starts-append}
+use Rattle.text.proofs.Parts.{starts-append}
 
 -- ---- start tags
 

@@ -1,6 +1,6 @@
 // Checks documents, and writes for each whether it is accepted, with its number of parts, or refused, with number and place.
 // Standard input is a run of records: a length (3 bytes, big-endian) and a document. tests/documents.py writes the records and, by
-// the independent model, the stored output; tests/compare_documents.py compares many damaged documents.
+// the independent model, the stored output.
 use document::Check;
 use libc::STDIN_FILENO;
 use libc::STDOUT_FILENO;

@@ -1,7 +1,7 @@
 // The event table: which packets are accepted, and what the table then holds.
 use packet::Fault;
 ghost use mathlib.Core.Path.{_≡_};
-ghost use Rattle.events.specs.Table.{positionOf, received, sweptAll};
+ghost use Rattle.events.specs.Table.{positionOf, received, receiptNumber, sweptAll};
 ghost use Rattle.events.specs.Steps.{scanned, accepting, ofOutcome};
 
 pub mod checks;
@@ -11,7 +11,8 @@ pub mod plans;
 use checks::Checked;
 use plans::Places;
 
-// An entry of the event table.
+// An entry of the event table, laid out as C lays it out: a caller in C lends such entries.
+#[repr(C)]
 pub struct Entry {
     pub used: bool,
     pub key: u32,
@@ -112,4 +113,19 @@ fn accept(table: Table, checked: Checked) -> Received
         };
     }
     Received { receipt, table }
+}
+
+// Document 01's number for an answer, 0 for acceptance; the place is 0.
+pub fn receipt_number(receipt: Receipt) -> u8
+    ensures { λ r. ⌜ r ≡ receiptNumber receipt ⌝ }
+{
+    match receipt {
+        Receipt::Accepted => 0,
+        Receipt::Late => 12,
+        Receipt::UnknownKey => 8,
+        Receipt::Unverified => 9,
+        Receipt::NotAbove => 10,
+        Receipt::Full => 11,
+        Receipt::Refused(fault) => packet::fault_number(fault),
+    }
 }

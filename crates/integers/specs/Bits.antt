@@ -1,7 +1,7 @@
 -- A signed local holds bits: `toZ w` reads the integer that they are in two's complement, `ofZ w` makes them. Laws of operations over integers that are read back from their bits, in the form in which the checker asks for them.
 use mathlib.Core.Path.{_≡_, _∙_}
 use mathlib.Core.Bool.{true, false}
-use Prim.Native.Nat.{_+_, _≤_, _<_}
+use Prim.Native.Nat.{ℕ, _+_, _≤_, _<_}
 use native.Mathlib.Omega.{arith}
 use lib.Dec.{T}
 use lib.IntN.{ℤ, pos, natAbs, _-ℤ_}
@@ -57,6 +57,14 @@ module _ (a : ℤ) (fa : SFits w32 a) where
 module _ (a b : ℤ) (fa : SFits w32 a) (fb : SFits w32 b) where
   pub wide-far : natAbs (a -ℤ b) ≤ 4_294_967_295
   wide-far = omega (arith, abs-sub-mag a b 2_147_483_648 (fa .sfits) (fb .sfits))
+
+  -- the distance that a callee gave, of the integers themselves
+  module _ (r : ℕ) (e : r ≡ natAbs (read w32 a -ℤ read w32 b)) where
+    pub apart : r ≡ natAbs (a -ℤ b)
+    apart = e ∙ rw (toZ-ofZ fa, toZ-ofZ fb)
+
+    pub apart-le : r ≤ 4_294_967_295
+    apart-le = rw apart wide-far
 
   pub wide-sub-fits : SFits w64 (read w64 (read w32 a) -ℤ read w64 (read w32 b))
   wide-sub-fits = rw (wide-is a fa, wide-is b fb) (fits-abs (a -ℤ b) (omega (arith, wide-far)))

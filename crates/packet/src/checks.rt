@@ -4,6 +4,7 @@ use super::Fields;
 use super::Packet;
 use super::layout::fields_of;
 use super::shape::epicentre;
+use sheet::ranges::is_lasting;
 ghost use mathlib.Core.Path.{_≡_};
 ghost use mathlib.Core.Bool.{true, cond, not};
 ghost use Prim.Native.Nat.{_-_, _≤_};
@@ -31,13 +32,6 @@ pub fn lasting(expiry: u64, timestamp: u64) -> u64
         return 0;
     }
     expiry - timestamp
-}
-
-// Whether a number of seconds is a lasting time.
-fn is_lasting(seconds: u64) -> bool
-    ensures { λ r. ⌜ r ≡ isLasting seconds ⌝ }
-{
-    (1 <= seconds) & (seconds <= 31_536_000)
 }
 
 // The last tests of a packet, on its fields.

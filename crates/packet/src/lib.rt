@@ -4,7 +4,7 @@ use sheet::WarnFacts;
 ghost use mathlib.Core.Path.{_≡_};
 ghost use mathlib.Core.Bool.{true};
 ghost use Rattle.words.specs.Duration.{isLasting};
-ghost use Rattle.packet.specs.Packet.{tlvOf, signatureOf, lastingOf, packetOf, sheetOfFields, packetSheet, packetPlace};
+ghost use Rattle.packet.specs.Packet.{faultNumber, tlvOf, signatureOf, lastingOf, packetOf, sheetOfFields, packetSheet, packetPlace};
 
 mod bytes;
 mod checks;
@@ -150,5 +150,20 @@ pub fn packet_place(p: &[u8], place: Place) -> PacketPlace
     match read {
         Packet::Alert(f) => shape::place_in(f, place),
         Packet::Refused(fault) => PacketPlace::Refused(fault),
+    }
+}
+
+// Document 01's number for a fault; the place is 0.
+pub fn fault_number(fault: Fault) -> u8
+    ensures { λ r. ⌜ r ≡ faultNumber fault ⌝ }
+{
+    match fault {
+        Fault::Short => 1,
+        Fault::NotWarn => 2,
+        Fault::Version => 3,
+        Fault::NotAlert => 4,
+        Fault::Long => 5,
+        Fault::Range => 6,
+        Fault::Lasting => 7,
     }
 }

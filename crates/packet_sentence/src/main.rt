@@ -6,18 +6,6 @@ use packet::PacketSheet;
 use sheet::WarnFacts;
 use sheet::Wrote;
 
-fn fault_number(fault: Fault) -> u64 {
-    match fault {
-        Fault::Short => 1,
-        Fault::NotWarn => 2,
-        Fault::Version => 3,
-        Fault::NotAlert => 4,
-        Fault::Long => 5,
-        Fault::Range => 6,
-        Fault::Lasting => 7,
-    }
-}
-
 fn print_sentence(facts: WarnFacts) {
     let mut sentence = [0u8; 1024];
     let wrote = readback::write_warn(&mut sentence, 0, facts);
@@ -31,7 +19,7 @@ fn print_sentence(facts: WarnFacts) {
 
 fn print_refusal(fault: Fault) {
     io::write_all(STDOUT_FILENO, b"refused ");
-    io::print_decimal(STDOUT_FILENO, fault_number(fault));
+    io::print_decimal(STDOUT_FILENO, packet::fault_number(fault) as u64);
     io::write_all(STDOUT_FILENO, b" at 0\n");
 }
 

@@ -1,43 +1,21 @@
 -- An accepted document begins with the alert's start, the identifier and the sender.
 use mathlib.Core.Path.{_≡_, refl, sym, ap, subst, _∙_}
-use mathlib.Core.Bool.{Bool, true, cond, not, _&&_, _||_}
+use mathlib.Core.Bool.{Bool, true, not, _&&_, _||_}
 use mathlib.Core.List.{List, [], _∷_}
 use Prim.Native.Nat.{ℕ, _+_, _<_}
 use native.Mathlib.Omega.{arith}
 use borrow.Author.Tests.{eqb-true, eq-eqb}
-use lib.Dec.{eqb, ltb}
-use Rattle.text.specs.Logic.{by-test, and-left, and-right}
+use lib.Dec.{eqb}
+use Rattle.text.specs.Logic.{and-left, and-right}
 use Rattle.schema.specs.Classes as class
-use Rattle.schema.specs.Sequences.{nextOf, containerOf, firstRow, before, over, classes}
+use Rattle.schema.specs.Sequences.{nextOf, firstRow, before, over}
 use Rattle.schema.proofs.Table.{table, Holds, next-rule}
 use Rattle.document.specs.Elements.{Element, opened, text, closed, accepted}
 use Rattle.document.specs.Documents.{documentOf}
 use Rattle.document.specs.Following.{follow}
 use Rattle.document.proofs.Accepted.{Every}
 use Rattle.document.proofs.Sound.{Sorted, all-sorted}
-use Rattle.document.proofs.Schema.{follows-schema}
-
--- ---- rows that elements lead on from
-
--- row 0 leads nowhere
-next-none : (c : ℕ) → nextOf 0 c ≡ 0
-unfolding nextOf
-next-none c = by-test (ltb c classes) (λ e. rw e) (λ e. rw e)
-
-follow-none : (es : List Element) → follow 0 es ≡ 0
-unfolding follow
-follow-none [] = refl
-follow-none (opened c p ∷ es) = rw (next-none c) (follow-none es)
-follow-none (text c p t ∷ es) = rw (next-none c) (follow-none es)
-follow-none (closed c ∷ es) = by-test (eqb c (containerOf 0)) (λ e. rw (e, next-none 0) (follow-none es)) (λ e. rw e)
-
--- behind an element that stands where it may the row is one of the table's
-taken : (row : ℕ) (es : List Element) → follow row es ≡ over → row ≡ 0 → ⊥
-taken row es h z = omega (arith, ap (λ (r : ℕ). follow r es) (sym z) ∙ h, follow-none es)
-
--- an end that stands where it may
-ended-right : (row c : ℕ) (es : List Element) → cond (eqb c (containerOf row)) (follow (nextOf row 0) es) 0 ≡ over → follow (nextOf row 0) es ≡ over
-ended-right row c es h = by-test (eqb c (containerOf row)) (λ e. rw e at h) (λ e. absurd (omega (arith, rw e at h)))
+use Rattle.document.proofs.Schema.{taken, ended-right, follows-schema}
 
 -- ---- rows in which one class only may stand
 

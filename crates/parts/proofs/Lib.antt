@@ -5,7 +5,6 @@ pub mod Near
 pub mod First
 pub mod Spans
 pub mod Ranges
-pub mod Choices
 pub mod Durations
 pub mod Along
 pub mod Noting

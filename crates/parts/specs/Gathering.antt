@@ -1,10 +1,10 @@
 -- What is kept while a document is read: the same facts, gathered element by element. The laws in proofs/ show that they are those of the definitions.
-use mathlib.Core.Bool.{Bool, true, false, cond, not, _&&_, _||_}
+use mathlib.Core.Bool.{false, cond, _&&_, _||_}
 use mathlib.Core.List.{List, [], _∷_}
 use Prim.Native.Nat.{ℕ, zero, suc, _+_, _-_, _≤_}
 use lib.IntN.{natAbs}
 use lib.Dec.{eqb, leb, ltb}
-use lib.ListN.{length, getD, set}
+use lib.ListN.{getD, set}
 use mir.Val.{boolByte}
 use Rattle.sheet.specs.declared.Span.{Span}
 use Rattle.sheet.specs.declared.Lasting.{Lasting}
@@ -22,7 +22,6 @@ use Rattle.document.specs.Elements.{Element, opened, text, closed, Verdict, ans
 use Rattle.document.specs.Documents.{documentOf}
 use Rattle.parts.specs.declared.Facts.{Facts}
 use Rattle.parts.specs.declared.Shapes.{Shapes}
-use Rattle.parts.specs.declared.Outcome.{Outcome}
 use Rattle.parts.specs.declared.Outcome.the-variants as outcome
 use Rattle.parts.specs.declared.Reading.{Reading}
 use Rattle.parts.specs.declared.View.{View}

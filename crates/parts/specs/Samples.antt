@@ -47,7 +47,7 @@ use Rattle.parts.specs.declared.CapSheet.{CapSheet}
 use Rattle.parts.specs.declared.CapSheet.the-variants as drawn
 use Rattle.parts.specs.declared.CapPlace.the-variants as placed
 use Rattle.parts.specs.Elements.{within, lookUp, lastFrom}
-use Rattle.parts.specs.Codes.{messageAt, statusAt, scopeAt, urgencyAt, severityAt, certaintyAt}
+use Rattle.sheet.specs.CodePlaces.{messageAt, statusAt, scopeAt, urgencyAt, severityAt, certaintyAt}
 use Rattle.parts.specs.Sheets.{lastsOf, capSheet}
 use Rattle.parts.specs.Places.{anyShape, anyHolds, capPlace}
 

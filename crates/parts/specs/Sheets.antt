@@ -1,8 +1,7 @@
 -- The sheet of a part: "Drawing a sheet, after its packet's or document's own: 21, 7".
-use mathlib.Core.Bool.{Bool, true, false, cond, not, _&&_}
-use mathlib.Core.List.{List, [], _∷_}
+use mathlib.Core.Bool.{Bool, false, cond, not}
+use mathlib.Core.List.{List}
 use Prim.Native.Nat.{ℕ, zero, suc}
-use lib.Dec.{eqb}
 use lib.IntN.{ℤ, pos, negsuc, natAbs, _-ℤ_}
 use Rattle.words.specs.Duration.{isLasting}
 use Rattle.time.specs.declared.Time.{Time}
@@ -14,7 +13,6 @@ use Rattle.sheet.specs.declared.Part.{Part}
 use Rattle.sheet.specs.declared.Parts.{Parts}
 use Rattle.sheet.specs.declared.Parts.the-variants as parts
 use Rattle.sheet.specs.declared.CapFacts.{CapFacts}
-use Rattle.sheet.specs.declared.Span.{Span}
 use Rattle.schema.specs.Classes as class
 use Rattle.document.specs.Elements.{Element, Verdict, accepted, refused, total}
 use Rattle.document.specs.Documents.{documentOf}

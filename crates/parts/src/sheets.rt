@@ -10,19 +10,11 @@ use sheet::CapFacts;
 use sheet::Lasting;
 use sheet::Part;
 use sheet::Parts;
-use sheet::Span;
+use sheet::span_in;
 ghost use mathlib.Core.Path.{_≡_};
 ghost use Prim.Native.Nat.{_≤_, _<_};
 ghost use lib.ListN.{length};
-ghost use Rattle.sheet.specs.Reading.{spanIn};
 ghost use Rattle.parts.specs.Gathering.{headText, ownText, lastsBy, partBy, sheetBy, sheetOfFacts};
-
-// The bytes of a part of a text.
-fn span_in(s: &[u8], span: Span) -> &[u8]
-    ensures { λ r. ⌜ now r ≡ spanIn (now (s .entry)) span ⌝ }
-{
-    text::first(text::skip(s, span.start), span.len)
-}
 
 // How long the part asked for lasts.
 fn lasts_of(s: &[u8], f: Facts) -> Lasts

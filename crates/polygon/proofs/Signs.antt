@@ -1,5 +1,5 @@
 -- Differences and their products by sign and magnitude, over coordinates that are read back from their bits.
-use mathlib.Core.Path.{_≡_, sym, _∙_}
+use mathlib.Core.Path.{_≡_, sym}
 use mathlib.Core.Bool.{not, Bool·beq, _&&_}
 use Prim.Native.Nat.{ℕ, _-_, _*_, _≤_}
 use native.Mathlib.Nat.{mul-le-mul}
@@ -11,7 +11,7 @@ use mir.Val.{Fits, SFits}
 use mir.Facts.{toZ-ofZ}
 use Rattle.integers.specs.Magnitude.{signed, signed-mul}
 use Rattle.integers.specs.Order.{le-not-less, negative-sub}
-use Rattle.integers.specs.Bits.{read, wide-far}
+use Rattle.integers.specs.Bits.{read, wide-far, apart}
 use Rattle.text.specs.Logic.{and-comm}
 use Rattle.polygon.specs.Polygon.{same}
 
@@ -25,10 +25,10 @@ same-is a b = rw (le-not-less a b, le-not-less b a) (and-comm (not (ltZ b a)) (n
 
 module _ (a b c d : ℤ) (fa : SFits w32 a) (fb : SFits w32 b) (fc : SFits w32 c) (fd : SFits w32 d) (m n : ℕ) (em : m ≡ natAbs (read w32 a -ℤ read w32 b)) (en : n ≡ natAbs (read w32 c -ℤ read w32 d)) where
   first-is : m ≡ natAbs (a -ℤ b)
-  first-is = em ∙ rw (toZ-ofZ fa, toZ-ofZ fb)
+  first-is = apart a b fa fb m em
 
   second-is : n ≡ natAbs (c -ℤ d)
-  second-is = en ∙ rw (toZ-ofZ fc, toZ-ofZ fd)
+  second-is = apart c d fc fd n en
 
   pub product-fits : Fits w64 (m * n)
   product-fits =

@@ -1,42 +1,69 @@
 -- The next pair of a text: how it is read, and what it says of the text's tokens.
 use mathlib.Core.Path.{_≡_, refl, sym, ap, _∙_, subst}
-use mathlib.Core.Bool.{true}
+use mathlib.Core.Bool.{true, false, false≢true}
 use mathlib.Core.List.{List, [], _∷_}
 use mathlib.Core.Logic.{⊎-elim}
-use Prim.Native.Nat.{ℕ, _-_, _≤_, _<_}
-use native.Mathlib.Nat.{add-sub-cancel-left}
+use Prim.Native.Nat.{ℕ, _≤_, _<_}
 use native.Mathlib.Omega.{arith}
-use borrow.Author.Tests.{leb-true, leb-false, le-leb, lt-leb}
+use borrow.Author.Tests.{leb-true, leb-false, le-leb, lt-leb, not-true, not-false}
 use lib.Dec.{leb}
-use lib.ListN.{length, take, drop, drop-of-length-le, length-drop}
-use lib.Seq.{drop-drop}
-use Rattle.text.specs.Logic.{cond-cases}
-use Rattle.text.specs.Bytes.{spaces}
+use lib.ListN.{length, getD, drop, drop-of-length-le, length-drop}
+use lib.Seq.{drop-cons, drop-drop}
+use Rattle.text.specs.Logic.{by-test, cond-cases}
+use Rattle.text.specs.Bytes.{isSpace, spaces}
 use Rattle.text.specs.Tokens.{onToken, tokens, tokenLength}
 use Rattle.text.proofs.Laws.{token-within, tokens-space, token-or-end, tokens-next, token-some}
 use Rattle.coordinates.specs.declared.Place.{Place}
 use Rattle.coordinates.specs.declared.Pair.{Pair}
 use Rattle.coordinates.specs.declared.Pair.the-variants as pair
-use Rattle.coordinates.specs.Place.{pairOf}
+use Rattle.coordinates.specs.declared.LeadingPair.the-variants as leading
+use Rattle.coordinates.specs.Place.{pairOf, leadingPair}
+use Rattle.coordinates.proofs.Tokens.{token-led, token-not-led}
 use Rattle.polygon.specs.declared.pairs.Next.{Next}
 use Rattle.polygon.specs.declared.pairs.Next.the-variants as next
-use Rattle.polygon.specs.Next.{startOf, endOf, tokenAt, endingAt, nextOf}
+use Rattle.polygon.specs.Next.{startOf, endOf, tokenAt, endingAt, endedBy, nextOf}
 
 -- ---- the reading
 
-pub end-within : (l : List ℕ) (i e : ℕ) → i < length l → e ≡ endOf l i → e ≤ length l
-end-within l i e h f = rw f (token-within l i (omega arith))
+-- behind a pair that leads a text: by the place e of the text, and by what stands there
+module _ (p : Place) (l : List ℕ) (e : ℕ) where
+  pub ended-by-space : e < length l → isSpace (getD l e 0) ≡ true → next.Pair p e ≡ endedBy p e (drop e l)
+  ended-by-space h t = rw (drop-cons l e 0 h, t)
+
+  pub ended-by-end : length l ≤ e → next.Pair p e ≡ endedBy p e (drop e l)
+  ended-by-end h = rw (drop-of-length-le l h)
+
+  pub not-ended : e < length l → isSpace (getD l e 0) ≡ false → next.Fault ≡ endedBy p e (drop e l)
+  not-ended h t = rw (drop-cons l e 0 h, t)
+
+module _ (p : Place) (e : ℕ) where
+  ended-whole : (r : List ℕ) → onToken r ≡ false → endedBy p e r ≡ next.Pair p e
+  unfolding onToken
+  ended-whole [] t = refl
+  ended-whole (b ∷ r) t = rw (not-false (isSpace b) t)
+
+  ended-part : (r : List ℕ) → onToken r ≡ true → endedBy p e r ≡ next.Fault
+  unfolding onToken
+  ended-part [] t = absurd (false≢true t)
+  ended-part (b ∷ r) t = rw (not-true (isSpace b) t)
 
 module _ (l : List ℕ) (at i : ℕ) (start : i ≡ startOf l at) where
   pub read-end : length l ≤ i → next.End ≡ nextOf l at
   unfolding nextOf
   read-end h = rw (← start, le-leb (length l) i h)
 
-  pub read-token : i < length l → (e : ℕ) (v : Pair) → e ≡ endOf l i → v ≡ pairOf (take (e - i) (drop i l)) → endingAt e v ≡ nextOf l at
-  unfolding nextOf
-  read-token h e v f g =
-      let g′ : v ≡ pairOf (tokenAt l i) = g ∙ rw (f, add-sub-cancel-left i (tokenLength (drop i l))) in
-      rw (← start, lt-leb (length l) i h, ← f, ← g′)
+  module _ (h : i < length l) where
+    pub read-none : leadingPair i (drop i l) ≡ leading.Fault → next.Fault ≡ nextOf l at
+    unfolding nextOf
+    read-none q = rw (← start, lt-leb (length l) i h, token-not-led l i q)
+
+    pub read-led : (p : Place) (e : ℕ) → leadingPair i (drop i l) ≡ leading.At p e → endedBy p e (drop e l) ≡ nextOf l at
+    unfolding nextOf
+    read-led p e q =
+        let k = token-led l i p e q in
+        by-test (onToken (drop e l))
+        (λ t. rw (ended-part p e (drop e l) t, ← start, lt-leb (length l) i h, k .part t))
+        (λ t. rw (ended-whole p e (drop e l) t, ← start, lt-leb (length l) i h, k .whole t, ← k .end t))
 
 -- ---- what it says
 

@@ -1,43 +1,19 @@
 -- The answers of the writer of a sheet, by the tests that lead to each.
-use mathlib.Core.Path.{_≡_, refl, sym, ap}
-use mathlib.Core.Bool.{Bool, true, false, _&&_}
+use mathlib.Core.Path.{_≡_, ap}
+use mathlib.Core.Bool.{true, false}
 use mathlib.Core.List.{List}
 use Prim.Native.Nat.{ℕ, _+_, _-_, _≤_, _<_}
 use native.Mathlib.Omega.{arith}
 use lib.ListN.{length, length-drop}
 use lib.Dec.{leb}
-use borrow.Author.Tests.{le-leb, lt-leb, lt-ltb, leb-true, leb-false}
+use borrow.Author.Tests.{le-leb, lt-leb, leb-true, leb-false}
 use borrow.Rule.Slice.PartMut.{putMid, midOf}
 use Rattle.text.specs.Buffer.{Put}
 use Rattle.text.proofs.Buffer.{mid-all, put-written}
-use Rattle.words.specs.Duration.{isLasting}
 use Rattle.sheet.specs.declared.Wrote.the-variants.{End, OutOfRange, NoRoom}
-use Rattle.sheet.specs.declared.WarnFacts.{WarnFacts}
-use Rattle.sheet.specs.Sheet.{Sheet, warn, fitsPacket, inRange}
+use Rattle.sheet.specs.Sheet.{Sheet, inRange}
 use Rattle.sheet.specs.Sentence.{sentence}
 use Rattle.sheet.specs.Answers.{isWritten, wrote, after}
-use Rattle.sheet.proofs.Lengths.{WarnWidth}
-
--- all facts of a WARN sheet but its lasting time keep to their ranges by their width
-and-true : (b : Bool) → b && true ≡ b
-and-true true = refl
-and-true false = refl
-
-pub warn-in-range : (x : WarnFacts) → WarnWidth x → isLasting (x .lasting) ≡ inRange (warn x)
-unfolding inRange fitsPacket
-warn-in-range x h =
-    rw (
-      lt-ltb (x .event) 0x1_0000_0000 (h .event),
-      lt-ltb (x .number) 0x1_0000 (h .number),
-      lt-ltb (x .origin) 0x1_0000_0000 (h .origin),
-      lt-ltb (x .hazard) 0x100 (h .hazard),
-      lt-ltb (x .kind) 0x100 (h .kind),
-      lt-ltb (x .urgency) 0x100 (h .urgency),
-      lt-ltb (x .severity) 0x100 (h .severity),
-      lt-ltb (x .certainty) 0x100 (h .certainty),
-      lt-ltb (x .response) 0x100 (h .response),
-    )
-    (sym (and-true (isLasting (x .lasting))))
 
 -- room from a start on, by the test of what is left there
 pub has-room : (at n k : ℕ) → at ≤ n → leb k (n - at) ≡ true → at + k ≤ n

@@ -7,6 +7,5 @@ pub mod Letters
 pub mod Groups
 pub mod Turns
 pub mod CodeTable
-pub mod Names
 pub mod Answer
 pub mod Pieces

@@ -4,7 +4,6 @@ mod dictionary; // dictionary.rt: the words and their codes
 mod number; // number.rt: numbers in words
 mod duration; // duration.rt: durations in words
 mod codes; // codes.rt: CAP codes
-mod range; // range.rt: the ranges of a sheet's facts
 mod cap; // cap.rt: the sentence of a CAP sheet
 mod warn; // warn.rt: the sentence of a WARN sheet
 mod writing; // writing.rt: a text from a named start
@@ -14,8 +13,6 @@ use crate::cap::cap_has_room;
 use crate::cap::put_cap;
 use crate::duration::put_duration;
 use crate::number::put_number;
-use crate::range::is_cap;
-use crate::range::is_warn;
 use crate::reading::duration_at;
 use crate::reading::number_at;
 use crate::warn::put_warn;
@@ -25,6 +22,8 @@ use crate::writing::write_text;
 use sheet::CapFacts;
 use sheet::WarnFacts;
 use sheet::Wrote;
+use sheet::ranges::is_cap;
+use sheet::ranges::is_warn;
 use words::Heard;
 ghost use mathlib.Core.Path.{_≡_};
 ghost use lib.ListN.{drop};

@@ -1,13 +1,13 @@
 // What stands at a place of a text: a sheet as far as it can be read, and whether the text goes on with exactly that sheet's
 // sentence.
 use crate::cap::cap_at;
-use crate::scan::span_in;
 use crate::warn::warn_at;
 use readback::write_cap;
 use readback::write_warn;
 use sheet::Found;
 use sheet::Line;
 use sheet::Wrote;
+use sheet::span_in;
 ghost use mathlib.Core.Path.{_≡_};
 ghost use Prim.Native.Nat.{_≤_};
 ghost use lib.ListN.{length, drop};

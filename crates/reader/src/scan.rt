@@ -2,16 +2,9 @@
 use sheet::Span;
 ghost use mathlib.Core.Path.{_≡_};
 ghost use Prim.Native.Nat.{_+_, _≤_};
-ghost use lib.ListN.{length, take, drop};
-ghost use Rattle.sheet.specs.Reading.{wordLength, spanIn, byteOf};
+ghost use lib.ListN.{length, drop};
+ghost use Rattle.sheet.specs.Reading.{wordLength, byteOf};
 ghost use Rattle.reader.specs.Pieces.{wordSpan};
-
-// The bytes of a part of a text.
-pub fn span_in(t: &[u8], s: Span) -> &[u8]
-    ensures { λ r. ⌜ now r ≡ spanIn (now (t .entry)) s ⌝ }
-{
-    text::first(text::skip(t, s.start), s.len)
-}
 
 // The first place from `at` on that holds a comma, or the end; `at` itself where it lies past the end.
 fn word_end(t: &[u8], at: usize) -> usize

@@ -7,7 +7,6 @@ use events::Receipt;
 use events::Table;
 use libc::STDIN_FILENO;
 use libc::STDOUT_FILENO;
-use packet::Fault;
 use packet::PacketPlace;
 use packet::PacketSheet;
 use sheet::Wrote;
@@ -38,27 +37,12 @@ fn print_refusal(number: u64) {
     print(b" at 0\n");
 }
 
-fn fault_number(fault: Fault) -> u64 {
-    match fault {
-        Fault::Short => 1,
-        Fault::NotWarn => 2,
-        Fault::Version => 3,
-        Fault::NotAlert => 4,
-        Fault::Long => 5,
-        Fault::Range => 6,
-        Fault::Lasting => 7,
-    }
-}
-
 fn print_receipt(receipt: Receipt) {
-    match receipt {
-        Receipt::Accepted => print(b"accepted\n"),
-        Receipt::Late => print_refusal(12),
-        Receipt::UnknownKey => print_refusal(8),
-        Receipt::Unverified => print_refusal(9),
-        Receipt::NotAbove => print_refusal(10),
-        Receipt::Full => print_refusal(11),
-        Receipt::Refused(fault) => print_refusal(fault_number(fault)),
+    let number = events::receipt_number(receipt);
+    if number == 0 {
+        print(b"accepted\n");
+    } else {
+        print_refusal(number as u64);
     }
 }
 
@@ -71,7 +55,7 @@ fn print_sentence(bytes: &[u8]) {
             let answer = readback::write_warn(&mut own, 0, facts);
             print_written(&own, answer);
         }
-        PacketSheet::Refused(fault) => print_refusal(fault_number(fault)),
+        PacketSheet::Refused(fault) => print_refusal(packet::fault_number(fault) as u64),
     }
 }
 
@@ -92,7 +76,7 @@ fn print_place(bytes: &[u8], place: Place) {
         PacketPlace::Inside => print(b"inside\n"),
         PacketPlace::Outside => print(b"outside\n"),
         PacketPlace::OutOfRange => print_refusal(6),
-        PacketPlace::Refused(fault) => print_refusal(fault_number(fault)),
+        PacketPlace::Refused(fault) => print_refusal(packet::fault_number(fault) as u64),
     }
 }
 

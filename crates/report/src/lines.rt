@@ -1,13 +1,12 @@
 // The lines of parts.
 use crate::digits::write_refusal;
 use parts::CapSheet;
-use sheet::Span;
 use sheet::Wrote;
+use sheet::span_in;
 ghost use mathlib.Core.Path.{_≡_};
 ghost use Prim.Native.Nat.{_+_, _≤_};
 ghost use lib.ListN.{length};
 ghost use Rattle.text.specs.Buffer.{written};
-ghost use Rattle.sheet.specs.Reading.{spanIn};
 ghost use Rattle.parts.specs.Sheets.{capSheet};
 ghost use Rattle.report.specs.Lines.{linesFrom};
 ghost use Rattle.report.specs.PartLine.{lineAt, isSentence};
@@ -16,13 +15,6 @@ ghost use Rattle.report.specs.PartLine.{lineAt, isSentence};
 pub struct Line {
     pub end: usize,
     pub more: bool,
-}
-
-// The bytes of a part of a text.
-fn span_in(s: &[u8], span: Span) -> &[u8]
-    ensures { λ r. ⌜ now r ≡ spanIn (now (s .entry)) span ⌝ }
-{
-    text::first(text::skip(s, span.start), span.len)
 }
 
 // Writes the line of a part from a place on, where there is room for the longest.

@@ -1,5 +1,5 @@
 -- The rules of texts, by the element's class. A rule gives the number of the refusal, or 0 for a text that keeps to it.
-use mathlib.Core.Bool.{Bool, true, false, cond, _&&_, _||_}
+use mathlib.Core.Bool.{Bool, cond, _&&_, _||_}
 use mathlib.Core.List.{List}
 use Prim.Native.Nat.{ℕ}
 use lib.Dec.{eqb, leb, ltb}

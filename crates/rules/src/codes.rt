@@ -64,62 +64,41 @@ const STARTS: [usize; 50] = [
     303,
 ];
 
-// Where the codes of a class stand among all codes: from `first` to before `until`.
+// Where the codes of a class stand among all codes: from `from` to before `end`.
 struct Range {
-    first: usize,
-    until: usize,
+    from: usize,
+    end: usize,
 }
 
 // The codes of a class; none for a class without codes.
 fn range_of(class: usize) -> Range
-    ensures { λ r. ⌜ (r .until ≤ 49) × (codes class ≡ between (r .first) (r .until)) ⌝ }
+    ensures { λ r. ⌜ (r .end ≤ 49) × (codes class ≡ between (r .from) (r .end)) ⌝ }
 {
     if class == class::STATUS {
-        return Range { first: 0, until: 5 };
+        return Range { from: 0, end: 5 };
     }
     if class == class::MSG_TYPE {
-        return Range {
-            first: 5,
-            until: 10,
-        };
+        return Range { from: 5, end: 10 };
     }
     if class == class::SCOPE {
-        return Range {
-            first: 10,
-            until: 13,
-        };
+        return Range { from: 10, end: 13 };
     }
     if class == class::CATEGORY {
-        return Range {
-            first: 13,
-            until: 25,
-        };
+        return Range { from: 13, end: 25 };
     }
     if class == class::RESPONSE_TYPE {
-        return Range {
-            first: 25,
-            until: 34,
-        };
+        return Range { from: 25, end: 34 };
     }
     if class == class::URGENCY {
-        return Range {
-            first: 34,
-            until: 39,
-        };
+        return Range { from: 34, end: 39 };
     }
     if class == class::SEVERITY {
-        return Range {
-            first: 39,
-            until: 44,
-        };
+        return Range { from: 39, end: 44 };
     }
     if class == class::CERTAINTY {
-        return Range {
-            first: 44,
-            until: 49,
-        };
+        return Range { from: 44, end: 49 };
     }
-    Range { first: 0, until: 0 }
+    Range { from: 0, end: 0 }
 }
 
 // Whether a text is the i-th of all codes.
@@ -137,10 +116,10 @@ pub fn code_of(class: usize, t: &[u8]) -> usize
     ensures { λ r. ⌜ r ≡ codeOf class (now (t .entry)) ⌝ }
 {
     let range = range_of(class);
-    let mut i = range.first;
-    while i < range.until {
+    let mut i = range.from;
+    while i < range.end {
         if is_code(t, i) {
-            return i - range.first + 1;
+            return i - range.from + 1;
         }
         i += 1;
     }

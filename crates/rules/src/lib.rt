@@ -1,19 +1,13 @@
 // The rules of texts of CAP documents, by their element's class.
 use circle::Circle;
 use schema::class;
+use sheet::ranges::is_name_byte;
 use time::Time;
 ghost use mathlib.Core.Path.{_≡_};
-ghost use Rattle.sheet.specs.Sheet.{isNameByte, allNameBytes};
+ghost use Rattle.sheet.specs.Sheet.{allNameBytes};
 ghost use Rattle.rules.specs.Texts.{nameRule, codeRule, timeRule, polygonRule, circleRule, isTime, textRule};
 
 pub mod codes; // codes.rt: code lists
-
-// Whether sender and identifier may hold a byte.
-fn is_name_byte(b: u8) -> bool
-    ensures { λ r. ⌜ r ≡ isNameByte b ⌝ }
-{
-    (0x20 < b) & (b != b',') & (b != b'<') & (b != b'&')
-}
 
 // Whether sender and identifier may hold all bytes of a text.
 fn all_name_bytes(t: &[u8]) -> bool

@@ -8,41 +8,34 @@ use lib.Dec.{eqb, leb, ltb}
 use lib.ListN.{length, getD}
 use mir.Syntax.{w64}
 use mir.Val.{Fits}
-use borrow.Author.Tests.{leb-true, ltb-true, eqb-true, eqb-false, eq-eqb, ne-eqb}
-use Rattle.text.specs.Logic.{by-test, below-at, eql}
+use borrow.Author.Tests.{leb-true, ltb-true, eqb-true, eqb-false, ne-eqb}
+use Rattle.text.specs.Logic.{by-test, below-at, eql, eql-refl}
 use Rattle.schema.specs.Classes.{names, nameOf, classOf}
 use Rattle.schema.specs.Sequences.{classes}
-use Rattle.schema.proofs.Table.{below-both}
 use Rattle.schema.proofs.Naming.{class-named}
 use Rattle.schema.proofs.Rows.{class-below}
 
 -- HASHED
-unfoldable pub hashed : List (List ℕ)
+unfoldable pub hashed : List ℕ
 hashed =
-    (0 ∷ 0 ∷ 0 ∷ 0 ∷ 0 ∷ 0 ∷ 0 ∷ 36 ∷ 0 ∷ 0 ∷ 0 ∷ 0 ∷ 0 ∷ 0 ∷ 0 ∷ 0 ∷ 0 ∷ 0 ∷ 0 ∷ 0 ∷ 0 ∷ 0 ∷ 0 ∷ 0 ∷ 0 ∷ 0 ∷ 0 ∷ 0 ∷ 0 ∷ 41 ∷ 0 ∷ 0 ∷ []) ∷
-    (0 ∷ 0 ∷ 2 ∷ 0 ∷ 17 ∷ 4 ∷ 0 ∷ 0 ∷ 0 ∷ 10 ∷ 0 ∷ 0 ∷ 0 ∷ 0 ∷ 40 ∷ 0 ∷ 0 ∷ 0 ∷ 0 ∷ 0 ∷ 0 ∷ 0 ∷ 0 ∷ 0 ∷ 0 ∷ 0 ∷ 0 ∷ 0 ∷ 0 ∷ 0 ∷ 0 ∷ 18 ∷ []) ∷
-    (0 ∷ 14 ∷ 0 ∷ 0 ∷ 0 ∷ 0 ∷ 0 ∷ 0 ∷ 30 ∷ 0 ∷ 0 ∷ 0 ∷ 0 ∷ 0 ∷ 0 ∷ 50 ∷ 0 ∷ 0 ∷ 0 ∷ 0 ∷ 0 ∷ 0 ∷ 0 ∷ 0 ∷ 1 ∷ 0 ∷ 0 ∷ 0 ∷ 23 ∷ 0 ∷ 0 ∷ 0 ∷ []) ∷
-    (0 ∷ 0 ∷ 0 ∷ 0 ∷ 0 ∷ 0 ∷ 46 ∷ 9 ∷ 0 ∷ 43 ∷ 0 ∷ 13 ∷ 0 ∷ 11 ∷ 0 ∷ 0 ∷ 0 ∷ 0 ∷ 0 ∷ 0 ∷ 0 ∷ 0 ∷ 0 ∷ 0 ∷ 0 ∷ 0 ∷ 0 ∷ 0 ∷ 0 ∷ 0 ∷ 0 ∷ 0 ∷ []) ∷
-    (0 ∷ 0 ∷ 0 ∷ 12 ∷ 0 ∷ 0 ∷ 0 ∷ 0 ∷ 31 ∷ 48 ∷ 0 ∷ 0 ∷ 0 ∷ 0 ∷ 0 ∷ 0 ∷ 0 ∷ 0 ∷ 45 ∷ 0 ∷ 0 ∷ 7 ∷ 0 ∷ 0 ∷ 0 ∷ 37 ∷ 0 ∷ 0 ∷ 0 ∷ 0 ∷ 0 ∷ 25 ∷ []) ∷
-    (0 ∷ 0 ∷ 28 ∷ 0 ∷ 0 ∷ 0 ∷ 26 ∷ 44 ∷ 22 ∷ 0 ∷ 0 ∷ 42 ∷ 0 ∷ 39 ∷ 0 ∷ 0 ∷ 0 ∷ 0 ∷ 47 ∷ 21 ∷ 33 ∷ 0 ∷ 0 ∷ 0 ∷ 0 ∷ 0 ∷ 0 ∷ 0 ∷ 3 ∷ 0 ∷ 0 ∷ 0 ∷ []) ∷
-    (6 ∷ 0 ∷ 0 ∷ 0 ∷ 0 ∷ 0 ∷ 0 ∷ 0 ∷ 0 ∷ 0 ∷ 0 ∷ 0 ∷ 0 ∷ 5 ∷ 0 ∷ 49 ∷ 16 ∷ 20 ∷ 0 ∷ 0 ∷ 29 ∷ 0 ∷ 0 ∷ 0 ∷ 0 ∷ 0 ∷ 27 ∷ 0 ∷ 0 ∷ 0 ∷ 0 ∷ 0 ∷ []) ∷
-    (0 ∷ 0 ∷ 0 ∷ 0 ∷ 0 ∷ 0 ∷ 0 ∷ 0 ∷ 0 ∷ 0 ∷ 0 ∷ 0 ∷ 0 ∷ 0 ∷ 0 ∷ 19 ∷ 0 ∷ 0 ∷ 0 ∷ 0 ∷ 0 ∷ 0 ∷ 0 ∷ 0 ∷ 0 ∷ 0 ∷ 32 ∷ 0 ∷ 0 ∷ 0 ∷ 8 ∷ 0 ∷ []) ∷
-    (0 ∷ 0 ∷ 0 ∷ 0 ∷ 0 ∷ 15 ∷ 0 ∷ 0 ∷ 0 ∷ 0 ∷ 0 ∷ 0 ∷ 0 ∷ 0 ∷ 0 ∷ 0 ∷ 0 ∷ 0 ∷ 0 ∷ 0 ∷ 0 ∷ 0 ∷ 0 ∷ 34 ∷ 0 ∷ 0 ∷ 0 ∷ 0 ∷ 35 ∷ 0 ∷ 0 ∷ 0 ∷ []) ∷
-    (0 ∷ 0 ∷ 0 ∷ 0 ∷ 0 ∷ 0 ∷ 0 ∷ 0 ∷ 0 ∷ 0 ∷ 0 ∷ 0 ∷ 0 ∷ 0 ∷ 0 ∷ 0 ∷ 0 ∷ 0 ∷ 0 ∷ 0 ∷ 0 ∷ 0 ∷ 0 ∷ 0 ∷ 0 ∷ 0 ∷ 38 ∷ 0 ∷ 24 ∷ 0 ∷ 0 ∷ 0 ∷ []) ∷
+    0 ∷ 30 ∷ 0 ∷ 0 ∷ 37 ∷ 18 ∷ 24 ∷ 0 ∷ 0 ∷ 21 ∷ 0 ∷ 0 ∷ 0 ∷ 0 ∷ 0 ∷ 0 ∷ 0 ∷ 39 ∷ 36 ∷ 10 ∷ 0 ∷ 0 ∷ 0 ∷ 0 ∷ 0 ∷ 31 ∷ 48 ∷ 9 ∷ 46 ∷ 0 ∷ 0 ∷ 0 ∷
+    34 ∷ 0 ∷ 47 ∷ 0 ∷ 0 ∷ 0 ∷ 0 ∷ 6 ∷ 0 ∷ 0 ∷ 0 ∷ 19 ∷ 5 ∷ 4 ∷ 0 ∷ 29 ∷ 0 ∷ 0 ∷ 0 ∷ 0 ∷ 20 ∷ 0 ∷ 33 ∷ 0 ∷ 14 ∷ 0 ∷ 15 ∷ 0 ∷ 0 ∷ 1 ∷ 8 ∷ 0 ∷
+    0 ∷ 0 ∷ 41 ∷ 0 ∷ 22 ∷ 0 ∷ 0 ∷ 0 ∷ 0 ∷ 27 ∷ 7 ∷ 0 ∷ 0 ∷ 0 ∷ 40 ∷ 0 ∷ 50 ∷ 0 ∷ 0 ∷ 0 ∷ 0 ∷ 13 ∷ 0 ∷ 35 ∷ 25 ∷ 42 ∷ 3 ∷ 0 ∷ 17 ∷ 0 ∷ 0 ∷ 16 ∷
+    0 ∷ 0 ∷ 0 ∷ 45 ∷ 0 ∷ 0 ∷ 0 ∷ 44 ∷ 0 ∷ 23 ∷ 2 ∷ 0 ∷ 32 ∷ 0 ∷ 0 ∷ 43 ∷ 0 ∷ 0 ∷ 28 ∷ 0 ∷ 12 ∷ 0 ∷ 0 ∷ 0 ∷ 38 ∷ 0 ∷ 26 ∷ 11 ∷ 49 ∷ 0 ∷ 0 ∷ 0 ∷
     []
 
 abbrev pub hash : List ℕ → ℕ
-hash t = (getD t 0 0 + 7 * getD t 2 0 + getD t (length t - 1) 0) % 32
+hash t = (11 * (getD t 0 0 + length t) + 3 * getD t 2 0 + 7 * getD t (length t - 1) 0) % 128
 
 -- where the hash leads
 abbrev pub found : List ℕ → ℕ
-found t = getD (getD hashed (length t - 3) []) (hash t) 0
+found t = getD hashed (hash t) 0
 
 -- ---- the tests
 
-low : ℕ → ℕ → Bool
+low : ℕ → Bool
 unfolding hashed
-low k h = ltb (getD (getD hashed k []) h 0) classes
+low h = ltb (getD hashed h 0) classes
 
 long : ℕ → Bool
 unfolding names
@@ -59,12 +52,13 @@ right c = eqb c 0 || eqb (found (nameOf c)) c
 -- ---- what they say
 
 -- the hash leads to a class, whatever the text
-pub found-low : (t : List ℕ) → length t ≤ 12 → found t < classes
+pub found-low : (t : List ℕ) → found t < classes
 unfolding low
-found-low t h = ltb-true (found t) classes (below-both 10 32 low tt (length t - 3) (hash t) (omega arith) (omega arith))
+found-low t = ltb-true (found t) classes (below-at 128 low tt (hash t) (omega arith))
 
-pub found-fits : (t : List ℕ) → length t ≤ 12 → Fits w64 (found t)
-found-fits t h = record { fits = omega (arith, found-low t h) }
+-- a class fits a word
+pub class-fits : (c : ℕ) → c < classes → Fits w64 c
+class-fits c h = record { fits = omega arith }
 
 name-ge : (c : ℕ) → c < classes → (c ≡ 0 → ⊥) → 3 ≤ length (nameOf c)
 unfolding long
@@ -94,10 +88,6 @@ module _ (t : List ℕ) (n : classOf t ≡ 0 → ⊥) where
   found-class = ap found (class-named t n) ∙ found-name (classOf t) (class-below t) n
 
 -- ---- the comparison settles the class
-
-eql-refl : (t : List ℕ) → eql t t ≡ true
-eql-refl [] = refl
-eql-refl (b ∷ t) = rw (eq-eqb b b refl) (eql-refl t)
 
 -- a text that is not its only candidate's name has no class
 pub other-name : (t : List ℕ) (c : ℕ) → ((classOf t ≡ 0 → ⊥) → c ≡ classOf t) → eql t (nameOf c) ≡ false → 0 ≡ classOf t

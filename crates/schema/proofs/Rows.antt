@@ -5,7 +5,7 @@ use mathlib.Core.List.{List}
 use Prim.Native.Nat.{ℕ, zero, suc, _+_, _≤_, _<_}
 use native.Mathlib.Omega.{arith}
 use lib.Dec.{eqb, leb, ltb}
-use lib.ListN.{length, getD}
+use lib.ListN.{length}
 use mir.Syntax.{w64}
 use mir.Val.{Fits}
 use borrow.Author.Tests.{eqb-true, eqb-false, ltb-true, not-true, ne-eqb}
@@ -13,7 +13,7 @@ use Rattle.text.specs.Logic.{cond-cases, below-at}
 use Rattle.schema.specs.Classes as class
 use Rattle.schema.specs.Classes.{names, classOf}
 use Rattle.schema.specs.Sequences.{particles, parentOf, firstRow, rows, classes, ownerFrom, containerOf, placeIn, nextOf}
-use Rattle.schema.proofs.Table.{table, containers, entry, below-both, entry-is, container-is, next-cases}
+use Rattle.schema.proofs.Table.{table, entry, below-both, next-cases}
 use Rattle.schema.proofs.Naming.{find-below}
 
 -- ---- the tests
@@ -64,9 +64,9 @@ unfolding within
 next-below row c =
     next-cases (λ (e : ℕ). e < rows) row c (omega arith) (λ h g. ltb-true (entry row c) rows (below-both rows classes within tt row c h g))
 
--- an entry of the source's table fits a word
-pub entry-fits : (r c : ℕ) → r < rows → c < classes → Fits w64 (entry r c)
-entry-fits r c h g = record { fits = omega (arith, entry-is r c h g, next-below r c) }
+-- so it fits a word
+pub next-fits : (v row c : ℕ) → v ≡ nextOf row c → Fits w64 v
+next-fits v row c e = record { fits = omega (arith, e, next-below row c) }
 
 owner-le : (n row : ℕ) → ownerFrom n row ≤ n
 unfolding ownerFrom
@@ -77,10 +77,6 @@ owner-le (suc n) row = cond-cases (λ (m : ℕ). m ≤ suc n) (leb (firstRow (su
 pub container-le : (row : ℕ) → containerOf row ≤ class.lastContainer
 unfolding containerOf
 container-le row = cond-cases (λ (m : ℕ). m ≤ class.lastContainer) (ltb row rows) (ownerFrom class.lastContainer row) 0 (λ e. owner-le class.lastContainer row) (λ e. omega arith)
-
--- so does a container
-pub container-fits : (r : ℕ) → r < rows → Fits w64 (getD containers r 0)
-container-fits r h = record { fits = omega (arith, container-is r h, container-le r) }
 
 -- a class found is one of the classes
 pub class-below : (t : List ℕ) → classOf t < classes

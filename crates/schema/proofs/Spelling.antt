@@ -6,6 +6,8 @@ use Prim.Native.Nat.{ℕ, _+_, _-_, _≤_, _<_}
 use native.Mathlib.Omega.{arith}
 use lib.Dec.{eqb, leb}
 use lib.ListN.{length, getD, take, drop, List·getD-eq-default}
+use mir.Syntax.{w64}
+use mir.Val.{Fits}
 use borrow.Author.Tests.{leb-true, ne-eqb}
 use Rattle.text.specs.Ascii.{ascii}
 use Rattle.text.specs.Logic.{below-at, eql, eql-true}
@@ -51,6 +53,13 @@ module _ (c : ℕ) (h : c < classes) where
   pub starts-order : from c ≤ from (c + 1)
   unfolding ordered
   starts-order = leb-true (from c) (from (c + 1)) (below-at classes ordered tt c h)
+
+  -- both fit a word
+  pub start-fits : Fits w64 (from c)
+  start-fits = record { fits = omega (arith, starts-order, starts-within) }
+
+  pub end-fits : Fits w64 (from (c + 1))
+  end-fits = record { fits = omega (arith, starts-within) }
 
   -- the name stands between them
   pub part-name : take (from (c + 1) - from c) (drop (from c) text) ≡ nameOf c

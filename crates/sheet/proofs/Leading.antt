@@ -9,7 +9,7 @@ use native.Mathlib.Omega.{arith}
 use lib.Dec.{eqb}
 use lib.ListN.{length, drop}
 use lib.Seq.{take-at, drop-at, drop-append-add}
-use borrow.Author.Tests.{eq-eqb, eqb-true}
+use borrow.Author.Tests.{eqb-true}
 use Rattle.text.specs.Logic.{by-test, and-left, and-right}
 use Rattle.words.specs.declared.Heard.{Heard}
 use Rattle.words.specs.Words.{said}
@@ -21,11 +21,6 @@ use Rattle.text.specs.Parts.{startsWith}
 use Rattle.sheet.specs.Reading.{wordLength, wordOf, behind, numberBehind, restBehind}
 
 -- ---- a given text
-
-pub starts-append : (p r : List ℕ) → startsWith p (p ++ r) ≡ true
-unfolding startsWith
-starts-append [] r = refl
-starts-append (b ∷ p) r = rw (eq-eqb b b refl) (starts-append p r)
 
 pub starts-split : (p l : List ℕ) → startsWith p l ≡ true → l ≡ p ++ drop (length p) l
 unfolding startsWith

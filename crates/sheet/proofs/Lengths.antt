@@ -36,7 +36,7 @@ use Rattle.text.specs.Parts.{startsWith}
 use Rattle.sheet.specs.Sheet.{Sheet, cap, warn, isLastingTime, isParts, inRange}
 use Rattle.sheet.specs.Sentence.{plain, lastingText, partText, partsText, capText, flag, flagsText, originText, hazardText, warnText, sentenceIn, sentence}
 use Rattle.sheet.specs.Reading.{fromLasting, lastingOf, partOf, partsOf, numberBehind, byteOf, warnOf}
-use Rattle.sheet.proofs.Ranges.{lasting-range, part-range, cap-range, WarnRange, warn-range}
+use Rattle.sheet.proofs.Limits.{lasting-range, part-range, cap-range, WarnRange, warn-range}
 
 -- ---- codes
 

@@ -1,5 +1,5 @@
 pub mod Leading
-pub mod Ranges
+pub mod Limits
 pub mod ReadCode
 pub mod ReadCap
 pub mod ReadWarn
@@ -13,3 +13,6 @@ pub mod ReadAll
 pub mod Demand3
 pub mod Samples3
 pub mod ReadLoop
+pub mod Choices
+pub mod Names
+pub mod Widths

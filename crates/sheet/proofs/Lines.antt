@@ -11,11 +11,12 @@ use Rattle.sheet.specs.declared.Found.{Found}
 use Rattle.sheet.specs.declared.Line.{Line}
 use Rattle.sheet.specs.declared.Line.the-variants as line
 use Rattle.text.specs.Parts.{startsWith}
+use Rattle.text.proofs.Parts.{starts-own}
 use Rattle.sheet.specs.Sheet.{Sheet, cap, warn, inRange}
 use Rattle.sheet.specs.Sentence.{capText, warnText, sentenceIn, sentence}
 use Rattle.sheet.specs.Reading.{foundAt, sheetOf, isLine, lineAt}
 use Rattle.sheet.specs.Answers.{lineLength}
-use Rattle.sheet.proofs.Leading.{starts-append, starts-split}
+use Rattle.sheet.proofs.Leading.{starts-split}
 use Rattle.sheet.proofs.ReadSentence.{sheet-of-sentence}
 
 -- ---- the sentence of any sheet has a byte
@@ -30,7 +31,7 @@ sentence-some (warn x) = omega arith
 module _ (x : Sheet) (rest : List ℕ) (h : inRange x ≡ true) where
   pub is-line : isLine (sentence x ++ rest) ≡ true
   unfolding isLine
-  is-line = rw (isLine, sheet-of-sentence x rest h, h) (starts-append (sentence x) rest)
+  is-line = rw (isLine, sheet-of-sentence x rest h, h) (starts-own (sentence x) rest)
 
   pub line-length : lineLength (sentence x ++ rest) ≡ length (sentence x)
   unfolding lineLength

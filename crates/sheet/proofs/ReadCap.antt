@@ -25,7 +25,7 @@ use Rattle.sheet.specs.Sheet.{isLastingTime, isParts}
 use Rattle.sheet.specs.Sentence.{plain, lastingText, partText, partsText, capText}
 use Rattle.sheet.specs.Reading.{wordLength, wordOf, fromMessage, fromStatus, fromScope, fromSender, fromName, fromParts, fromNumber, fromTotal, fromUrgency, fromSeverity, fromCertainty, fromLasting, messageOf, statusOf, scopeOf, urgencyOf, severityOf, certaintyOf, lastingOf, partOf, partsOf, capOf}
 use Rattle.sheet.proofs.Leading.{starts-split, word-of, behind-word, number-value, behind-number, duration-value}
-use Rattle.sheet.proofs.Ranges.{lasting-range, part-range, CapRange}
+use Rattle.sheet.proofs.Limits.{lasting-range, part-range, CapRange}
 use Rattle.sheet.proofs.ReadCode.{message-word, message-read, status-word, status-read, scope-word, scope-read, urgency-word, urgency-read, severity-word, severity-read, certainty-word, certainty-read}
 
 -- ---- how long a part lasts

@@ -13,7 +13,7 @@ use Rattle.text.specs.Parts.{startsWith}
 use Rattle.sheet.specs.Sheet.{Sheet, cap, warn, inRange}
 use Rattle.sheet.specs.Sentence.{plain, capText, warnText, sentenceIn, sentence}
 use Rattle.sheet.specs.Reading.{wordLength, wordOf, behind, fromMessage, fromStatus, fromScope, fromSender, fromName, senderAt, nameAt, capOf, warnOf, foundAt, sheetIn, sheetOf}
-use Rattle.sheet.proofs.Ranges.{cap-range, warn-range}
+use Rattle.sheet.proofs.Limits.{cap-range, warn-range}
 use Rattle.sheet.proofs.ReadCap.{cap-read}
 use Rattle.sheet.proofs.ReadWarn.{warn-read}
 

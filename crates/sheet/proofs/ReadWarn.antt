@@ -13,22 +13,23 @@ use Rattle.words.specs.Reading.{durationAt, endsNumber, endsDuration}
 use Rattle.words.proofs.ReadNumber.{ends-comma, ends-stop}
 use Rattle.sheet.specs.declared.WarnFacts.{WarnFacts}
 use Rattle.text.specs.Parts.{startsWith}
+use Rattle.text.proofs.Parts.{starts-own}
 use Rattle.sheet.specs.Sentence.{plain, flag, flagsText, originText, hazardText, warnText}
 use Rattle.sheet.specs.Reading.{behindFlag, fromUrgent, fromUpdate, fromCancel, fromTest, behindFlags, numberBehind, restBehind, fromOrigin, fromPeriod, fromHazard, fromKind, fromWarnUrgency, fromWarnSeverity, fromWarnCertainty, fromResponse, byteOf, warnOf}
-use Rattle.sheet.proofs.Leading.{starts-append, number-behind, rest-behind, duration-value, behind-duration}
-use Rattle.sheet.proofs.Ranges.{WarnRange}
+use Rattle.sheet.proofs.Leading.{number-behind, rest-behind, duration-value, behind-duration}
+use Rattle.sheet.proofs.Limits.{WarnRange}
 
 -- ---- a flag
 
 -- its word w, or nothing, and behind it r, which does not begin with w
 flag-read : (b : Bool) (w r : List ℕ) → startsWith w r ≡ false → startsWith w (flag plain b w ++ r) ≡ b
 unfolding flag
-flag-read true w r z = starts-append w r
+flag-read true w r z = starts-own w r
 flag-read false w r z = z
 
 flag-behind : (b : Bool) (w r : List ℕ) → startsWith w r ≡ false → behindFlag w (flag plain b w ++ r) ≡ r
 unfolding flag
-flag-behind true w r z = rw (starts-append w r) (drop-append-seam w r)
+flag-behind true w r z = rw (starts-own w r) (drop-append-seam w r)
 flag-behind false w r z = rw z
 
 -- another flag's word v does not begin with w

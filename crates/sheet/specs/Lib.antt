@@ -1,4 +1,5 @@
 pub mod Codes
+pub mod CodePlaces
 pub mod Sheet
 pub mod Sentence
 pub mod Reading

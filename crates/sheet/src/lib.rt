@@ -1,5 +1,10 @@
 // Fact sheets: what a sentence says, as values. The definitions of the sentence and of reading it are in specs/, the laws in proofs/;
-// the functions that write and read sentences are in the crate readback.
+// the functions that write and read sentences are in the crates readback and reader.
+ghost use mathlib.Core.Path.{_≡_};
+ghost use Rattle.sheet.specs.Reading.{spanIn};
+
+pub mod codes; // codes.rt: CAP codes by their place in the schema's lists
+pub mod ranges; // ranges.rt: the ranges of a sheet's facts
 
 // CAP codes. Document 01 says them in small letters.
 pub enum MessageType {
@@ -127,4 +132,11 @@ pub enum ReadBack {
     Sheet(usize, Found),
     NotReadBack(usize),
     NotThere,
+}
+
+// The bytes of a part of a text. Past the text's end there are none.
+pub fn span_in(text: &[u8], span: Span) -> &[u8]
+    ensures { λ r. ⌜ now r ≡ spanIn (now (text .entry)) span ⌝ }
+{
+    text::first(text::skip(text, span.start), span.len)
 }

@@ -3,6 +3,7 @@
 use sheet::CapFacts;
 use sheet::Span;
 use sheet::Wrote;
+use sheet::span_in;
 ghost use mathlib.Core.Path.{_≡_};
 ghost use Rattle.sheet.specs.Answers.{wrote, after};
 ghost use Rattle.shown.specs.Slices.{senderIn, nameIn, sheetWith};
@@ -24,14 +25,14 @@ pub struct ShownSheet<'a> {
 pub fn sender_in(text: &[u8], facts: Facts) -> &[u8]
     ensures { λ r. ⌜ now r ≡ senderIn (now (text .entry)) facts ⌝ }
 {
-    text::first(text::skip(text, facts.sender.start), facts.sender.len)
+    span_in(text, facts.sender)
 }
 
 // The name that the facts show in a text.
 pub fn name_in(text: &[u8], facts: Facts) -> &[u8]
     ensures { λ r. ⌜ now r ≡ nameIn (now (text .entry)) facts ⌝ }
 {
-    text::first(text::skip(text, facts.name.start), facts.name.len)
+    span_in(text, facts.name)
 }
 
 // Writes the sentence of the sheet that the facts make with a text. Plain parameters: who has a text and facts needs no sheet that holds a slice.

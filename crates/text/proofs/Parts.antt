@@ -1,7 +1,7 @@
 -- Parts of a text, and a text compared with what leads another.
-use mathlib.Core.Path.{_≡_, refl, sym, ap}
+use mathlib.Core.Path.{_≡_, refl, sym, ap, _∙_}
 use mathlib.Core.Bool.{Bool, true, false, _&&_}
-use mathlib.Core.List.{List, [], _∷_}
+use mathlib.Core.List.{List, [], _∷_, _++_}
 use Prim.Native.Nat.{ℕ, _+_, _-_, _≤_, _<_}
 use native.Mathlib.Nat.{suc-inj}
 use native.Mathlib.Numerals.{add-one}
@@ -10,7 +10,7 @@ use lib.Dec.{eqb}
 use lib.ListN.{length, getD, take, drop, length-drop, drop-of-length-le}
 use lib.Seq.{drop-cons, take-all}
 use borrow.Author.Tests.{eq-eqb, ne-eqb}
-use Rattle.text.specs.Logic.{by-test, eql, eql-true}
+use Rattle.text.specs.Logic.{by-test, and-assoc, eql, eql-true}
 use Rattle.text.specs.Parts.{part, startsWith}
 
 -- ---- parts
@@ -60,3 +60,20 @@ starts-equal [] [] h = refl
 starts-equal [] (y ∷ b) h = absurd (omega arith)
 starts-equal (x ∷ a) [] h = absurd (omega arith)
 starts-equal (x ∷ a) (y ∷ b) h = ap (λ (r : Bool). eqb x y && r) (starts-equal a b (suc-inj h))
+
+-- ---- texts one behind the other
+
+-- a text leads whatever it stands in front of
+pub starts-own : (p r : List ℕ) → startsWith p (p ++ r) ≡ true
+unfolding startsWith
+starts-own [] r = refl
+starts-own (b ∷ p) r = rw (eq-eqb b b refl) (starts-own p r)
+
+-- a text leads another if its front does and its rest leads what is behind that
+pub starts-append : (p q l : List ℕ) → startsWith p l && startsWith q (drop (length p) l) ≡ startsWith (p ++ q) l
+unfolding startsWith
+starts-append [] q l = refl
+starts-append (a ∷ p) q [] = refl
+starts-append (a ∷ p) q (b ∷ l) =
+    and-assoc (eqb b a) (startsWith p l) (startsWith q (drop (length p) l))
+    ∙ ap (λ (r : Bool). eqb b a && r) (starts-append p q l)

@@ -7,6 +7,7 @@ use Prim.Native.Nat.{ℕ, zero, suc, _<_, _≤_}
 use native.Mathlib.Nat.{le-of-suc-le-suc, not-suc-le-zero, eq-or-lt-of-le}
 use native.Mathlib.Omega.{arith}
 use lib.Dec.{T, eqb, eqb→eq}
+use borrow.Author.Tests.{eq-eqb}
 use mir.Val.{boolByte}
 
 -- by cases on a test, with the case as an equation
@@ -89,6 +90,10 @@ eql [] [] = true
 eql [] (y ∷ ys) = false
 eql (x ∷ xs) [] = false
 eql (x ∷ xs) (y ∷ ys) = eqb x y && eql xs ys
+
+pub eql-refl : (a : List ℕ) → eql a a ≡ true
+eql-refl [] = refl
+eql-refl (x ∷ xs) = rw (eq-eqb x x refl) (eql-refl xs)
 
 pub eql-true : (a b : List ℕ) → eql a b ≡ true → a ≡ b
 eql-true [] [] e = refl

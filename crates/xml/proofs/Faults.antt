@@ -2,10 +2,10 @@
 use mathlib.Core.Path.{_≡_, refl}
 use mathlib.Core.Bool.{Bool, true, false, not, _&&_, _||_}
 use mathlib.Core.List.{List, _∷_}
-use Prim.Native.Nat.{ℕ, suc, _+_, _≤_, _<_}
+use Prim.Native.Nat.{ℕ, _+_, _≤_, _<_}
 use Prim.Native.Char.{code}
 use native.Mathlib.Numerals.{add-one}
-use borrow.Author.Tests.{eq-eqb, ne-eqb, eqb-false}
+use borrow.Author.Tests.{eq-eqb, ne-eqb}
 use lib.Dec.{eqb}
 use lib.ListN.{length, getD, drop, drop-of-length-le}
 use lib.Seq.{drop-cons}
@@ -13,10 +13,11 @@ use Rattle.text.specs.Ascii.{ascii}
 use Rattle.text.specs.Parts.{startsWith}
 use Rattle.xml.specs.declared.Found.the-variants.{At, Nothing}
 use Rattle.xml.specs.declared.Content.the-variants.{Clean, Unended}
-use Rattle.xml.specs.Bytes.{isControl, isPlain}
+use Rattle.xml.specs.Bytes.{isControl, isPlain, leading}
 use Rattle.xml.specs.Texts.{textEnd, isReference, isFault, textFault, judged, content}
 use Rattle.xml.proofs.ByteKinds.{other-byte, plain-no-control}
 use Rattle.xml.proofs.Places.{at-cons}
+use Rattle.xml.proofs.Runs.{over-run}
 use Rattle.xml.proofs.Searches.{Search, search-on, search-stop, search-none}
 
 -- one of the five references, from what the five tests gave
@@ -38,7 +39,7 @@ unfolding isFault
 fault-past s i h = rw (drop-of-length-le s h)
 
 -- a plain byte is no fault, whatever follows
-pub plain-fine : (b : ℕ) (l : List ℕ) → isPlain b ≡ true → isFault (b ∷ l) ≡ false
+plain-fine : (b : ℕ) (l : List ℕ) → isPlain b ≡ true → isFault (b ∷ l) ≡ false
 unfolding isFault startsWith
 plain-fine b l e = rw (plain-no-control b e, other-byte isPlain b (code "&") refl e, other-byte isPlain b (code "]") refl e)
 
@@ -75,12 +76,6 @@ module _ (s : List ℕ) (i : ℕ) (h : i < length s) where
   unfolding content
   content-on n f = rw (fault-on n f, end-on n)
 
-  pub content-plain : isPlain (getD s i 0) ≡ true → content s i ≡ content s (i + 1)
-  content-plain e =
-      content-on
-      (eqb-false (getD s i 0) (code "<") (other-byte isPlain (getD s i 0) (code "<") refl e))
-      (rw (drop-cons s i 0 h) (plain-fine (getD s i 0) (drop (suc i) s) e))
-
   pub content-stop : getD s i 0 ≡ code "<" → content s i ≡ Clean i
   unfolding content
   content-stop e = rw (fault-stop e, end-stop e)
@@ -92,3 +87,18 @@ module _ (s : List ℕ) (i : ℕ) (h : i < length s) where
 pub content-none : (s : List ℕ) (i : ℕ) → length s ≤ i → content s i ≡ Unended
 unfolding content
 content-none s i h = rw (search-none text-search s i h)
+
+-- ---- behind plain bytes
+
+end-plain : (i b : ℕ) (m : List ℕ) → isPlain b ≡ true → textEnd i (b ∷ m) ≡ textEnd (i + 1) m
+unfolding textEnd
+end-plain i b m e = rw (other-byte isPlain b (code "<") refl e)
+
+fault-plain : (i b : ℕ) (m : List ℕ) → isPlain b ≡ true → textFault i (b ∷ m) ≡ textFault (i + 1) m
+unfolding textFault
+fault-plain i b m e = rw (other-byte isPlain b (code "<") refl e, plain-fine b m e)
+
+-- the text is behind a run of plain bytes what it is before it
+pub content-run : (s : List ℕ) (i r : ℕ) → r ≡ i + leading isPlain (drop i s) → content s r ≡ content s i
+unfolding content
+content-run s i r e = rw (e, over-run isPlain textFault fault-plain s i, over-run isPlain textEnd end-plain s i)

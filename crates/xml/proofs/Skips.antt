@@ -4,16 +4,16 @@ use mathlib.Core.Bool.{Bool, true, false, false≢true}
 use mathlib.Core.List.{List, [], _∷_}
 use Prim.Native.Nat.{ℕ, _+_}
 use Prim.Native.Char.{code}
-use native.Mathlib.Omega.{arith}
 use lib.Dec.{eqb}
 use lib.ListN.{drop}
 use lib.Seq.{drop-drop}
 use Rattle.text.specs.Ascii.{ascii}
 use Rattle.text.specs.Parts.{startsWith}
-use Rattle.text.specs.Logic.{by-test, and-left}
-use Rattle.xml.specs.Bytes.{isTagByte, leading}
+use Rattle.text.specs.Logic.{and-left}
+use Rattle.xml.specs.Bytes.{isTagByte}
 use Rattle.xml.specs.Tags.{tagEnd, nameEnd}
 use Rattle.xml.proofs.ByteKinds.{other-byte}
+use Rattle.xml.proofs.Runs.{over-run}
 
 -- a byte that passes a test which ">" and both quotes fail neither ends a tag nor opens a quote
 step :
@@ -22,20 +22,8 @@ step :
 unfolding tagEnd
 step p x y z i b m e = rw (other-byte p b (code ">") x e, other-byte p b (code "\"") y e, other-byte p b (code "'") z e)
 
--- nor does a run of a name's bytes
-run : (i : ℕ) (m : List ℕ) → tagEnd 0 i m ≡ tagEnd 0 (i + leading isTagByte m) (drop (leading isTagByte m) m)
-unfolding leading
-run i [] = ap (λ (k : ℕ). tagEnd 0 k []) (omega arith)
-run i (b ∷ m) =
-    by-test (isTagByte b)
-    (λ e.
-    rw e
-    (step isTagByte refl refl refl i b m e
-    ∙ (run (i + 1) m ∙ ap (λ (k : ℕ). tagEnd 0 k (drop (leading isTagByte m) m)) (omega arith))))
-    (λ e. rw e (ap (λ (k : ℕ). tagEnd 0 k (b ∷ m)) (omega arith)))
-
 pub tag-end-name : (l : List ℕ) (at : ℕ) → tagEnd 0 at (drop at l) ≡ tagEnd 0 (nameEnd l at) (drop (nameEnd l at) l)
-tag-end-name l at = run at (drop at l) ∙ ap (tagEnd 0 (nameEnd l at)) (drop-drop (leading isTagByte (drop at l)) at l)
+tag-end-name l at = over-run isTagByte (tagEnd 0) (step isTagByte refl refl refl) l at
 
 slash : (i : ℕ) (m : List ℕ) → startsWith (ascii "/") m ≡ true → tagEnd 0 i m ≡ tagEnd 0 (i + 1) (drop 1 m)
 unfolding startsWith

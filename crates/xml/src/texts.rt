@@ -4,8 +4,11 @@ use crate::Found;
 use crate::bytes::is_control;
 use crate::bytes::is_plain;
 ghost use mathlib.Core.Path.{_≡_};
-ghost use lib.ListN.{drop};
+ghost use Prim.Native.Nat.{_+_, _≤_};
+ghost use lib.Dec.{leb};
+ghost use lib.ListN.{length, drop};
 ghost use Rattle.xml.specs.declared.Found.the-variants.{At};
+ghost use Rattle.xml.specs.Bytes.{isPlain, leading};
 ghost use Rattle.xml.specs.Texts.{textEnd, isReference, isFault, judged, content};
 
 // The place of the first "<" from `at` on.
@@ -55,22 +58,66 @@ fn faulty(s: &[u8], at: usize) -> Content
     }
 }
 
-// The text that starts at a place.
+// Whether the 16 bytes from a place on are all plain. There is no branch in the loop, so that the compiler can test them at once.
+fn is_plain_block(s: &[u8], at: usize) -> bool
+    requires { ⌜ at + 16 ≤ length (now s) ⌝ }
+    ensures { λ r. ⌜ r ≡ leb 16 (leading isPlain (drop at (now (s .entry)))) ⌝ }
+{
+    let mut plain = true;
+    let mut i: usize = 0;
+    while i < 16 {
+        plain = plain & is_plain(s[at + i]);
+        i += 1;
+    }
+    plain
+}
+
+// A place before which all bytes from `at` on are plain, found by whole blocks.
+fn skip_blocks(s: &[u8], at: usize) -> usize
+    ensures { λ r. ⌜ r + leading isPlain (drop r (now (s .entry))) ≡ at + leading isPlain (drop at (now (s .entry))) ⌝ }
+{
+    if s.len() < 16 {
+        return at;
+    }
+    let last = s.len() - 16;
+    let mut i = at;
+    while i <= last {
+        if !is_plain_block(s, i) {
+            return i;
+        }
+        i += 16;
+    }
+    i
+}
+
+// The first place from `at` on that holds no plain byte.
+fn plain_end(s: &[u8], at: usize) -> usize
+    ensures { λ r. ⌜ r ≡ at + leading isPlain (drop at (now (s .entry))) ⌝ }
+{
+    let mut i = skip_blocks(s, at);
+    while i < s.len() {
+        if is_plain(s[i]) {
+            i += 1;
+        } else {
+            return i;
+        }
+    }
+    i
+}
+
+// The text that starts at a place: from one byte that isn't plain to the next.
 pub fn read_text(s: &[u8], at: usize) -> Content
     ensures { λ r. ⌜ r ≡ content (now (s .entry)) at ⌝ }
 {
-    let mut i = at;
+    let mut i = plain_end(s, at);
     while i < s.len() {
-        let b = s[i];
-        if !is_plain(b) {
-            if b == b'<' {
-                return Content::Clean(i);
-            }
-            if is_fault(s, i) {
-                return faulty(s, i);
-            }
+        if s[i] == b'<' {
+            return Content::Clean(i);
         }
-        i += 1;
+        if is_fault(s, i) {
+            return faulty(s, i);
+        }
+        i = plain_end(s, i + 1);
     }
     Content::Unended
 }

@@ -1,5 +1,6 @@
 -- `circle::is_near` meets its contract: the two distances and the cosine are those of the definition.
-use Rattle.circle.proofs.Near.{near-is, apart-le}
+use Rattle.integers.specs.Bits.{apart-le}
+use Rattle.circle.proofs.Near.{near-is}
 use borrow.Author.Needs.{needs}
 use Rattle.circle.proofs.is_near.Statement.{statement}
 use Rattle.circle.proofs.is_near.Tie as tie
@@ -11,7 +12,7 @@ cosine-at-requires : tie.Need-cosine-at-requires
 cosine-at-requires c κs = search needs
 
 scaled-requires : tie.Need-scaled-requires
-scaled-requires c κs = (apart-le _ _ _ (c .before .before .fits .lon) (c .before .before .fits .centre-lon) (c .before .distance .ensures), c .cosine-at .ensures .1)
+scaled-requires c κs = (apart-le _ _ (c .before .before .fits .lon) (c .before .before .fits .centre-lon) _ (c .before .distance .ensures), c .cosine-at .ensures .1)
 
 distance-requires-2 : tie.Need-distance-requires-2
 distance-requires-2 c κs = search needs

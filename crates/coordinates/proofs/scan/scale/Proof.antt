@@ -1,22 +1,17 @@
--- `scale` meets its contract: the table holds the powers of ten.
+-- The product with a power of ten.
 use borrow.Author.Needs.{needs}
-use Rattle.coordinates.proofs.Tens.{tens, scale-fits, scale-is}
+use Rattle.coordinates.proofs.Tens.{scale-fits, scale-is}
 use Rattle.coordinates.proofs.scan.scale.Statement.{statement}
 use Rattle.coordinates.proofs.scan.scale.Tie as tie
 
+power-of-ten-requires : tie.Need-power-of-ten-requires
+power-of-ten-requires c κs = search needs
+
 mul-result : tie.Need-mul-result
-mul-result c = search needs
-
-array-read-result : tie.Need-array-read-result
-array-read-result c = search needs
-
-mul-result-2 : tie.Need-mul-result-2
-unfolding tens
-mul-result-2 c = scale-fits _ _ (c .pre .0) (c .pre .1)
+mul-result c = scale-fits _ _ _ (c .power-of-ten .ensures) (c .before .pre .0) (c .before .pre .1)
 
 returns : tie.Need-returns
-unfolding tens
-returns c = scale-is _ _ (c .pre .0) (c .pre .1)
+returns c = scale-is _ _ _ (c .power-of-ten .ensures) (c .before .pre .0) (c .before .pre .1)
 
 pub scale-spec : {M : Type 1} → statement M
-scale-spec = tie.close (tie.spec mul-result array-read-result mul-result-2 returns)
+scale-spec = tie.close (tie.spec power-of-ten-requires mul-result returns)

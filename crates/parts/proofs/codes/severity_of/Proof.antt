@@ -1,34 +1,18 @@
--- The value at the code's place, or the last.
-use mathlib.Core.Path.{sym, ap, _∙_}
+-- The code at the place that the text has in its list.
+use mathlib.Core.Path.{ap, _∙_}
 use borrow.Author.Needs.{needs}
-use Rattle.parts.specs.Codes.{severityAt}
-use Rattle.parts.proofs.Choices.{four-passed}
+use Rattle.sheet.specs.CodePlaces.{severityAt}
 use Rattle.parts.proofs.codes.severity_of.Statement.{statement}
 use Rattle.parts.proofs.codes.severity_of.Tie as tie
 
 code-of-requires : tie.Need-code-of-requires
 code-of-requires c κs = search needs
 
+severity-at-requires : tie.Need-severity-at-requires
+severity-at-requires c κs = search needs
+
 returns : tie.Need-returns
-unfolding severityAt
-returns c = ap severityAt (sym (c .if1 .taken) ∙ c .before .code-of .ensures)
-
-returns-2 : tie.Need-returns-2
-unfolding severityAt
-returns-2 c = ap severityAt (sym (c .if2 .taken) ∙ c .before .before .code-of .ensures)
-
-returns-3 : tie.Need-returns-3
-unfolding severityAt
-returns-3 c = ap severityAt (sym (c .if3 .taken) ∙ c .before .before .before .code-of .ensures)
-
-returns-4 : tie.Need-returns-4
-unfolding severityAt
-returns-4 c = ap severityAt (sym (c .if4 .taken) ∙ c .before .before .before .before .code-of .ensures)
-
-returns-5 : tie.Need-returns-5
-unfolding severityAt
-returns-5 c = sym (four-passed _ _ _ _ _ _ (c .before .before .before .if1 .left) (c .before .before .if2 .left) (c .before .if3 .left) (c .if4 .left)) ∙ ap severityAt (c .before .before .before .before .code-of .ensures)
+returns c = c .severity-at .ensures ∙ ap severityAt (c .before .code-of .ensures)
 
 pub severity-of-spec : {M : Type 1} → statement M
-severity-of-spec =
-    tie.close (tie.spec code-of-requires returns returns-2 returns-3 returns-4 returns-5)
+severity-of-spec = tie.close (tie.spec code-of-requires severity-at-requires returns)

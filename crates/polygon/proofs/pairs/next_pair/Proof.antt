@@ -1,8 +1,7 @@
--- The token that stands behind white space, if any, is read as a pair; a token ends within the text.
-use mathlib.Core.Path.{sym, ap, _∙_}
+-- The pair that leads the text behind white space, if any, is the pair of the token there exactly where that token ends behind it.
+use mathlib.Core.Path.{sym, _∙_}
 use borrow.Author.Needs.{needs}
-use Rattle.polygon.specs.Next.{endingAt}
-use Rattle.polygon.proofs.Tokens.{end-within, read-end, read-token}
+use Rattle.polygon.proofs.Tokens.{read-end, read-none, read-led}
 use Rattle.polygon.proofs.pairs.next_pair.Statement.{statement}
 use Rattle.polygon.proofs.pairs.next_pair.Tie as tie
 
@@ -12,32 +11,23 @@ skip-space-requires c κs = search needs
 returns : tie.Need-returns
 returns c = read-end _ _ _ (c .before .skip-space .ensures) (c .if1 .taken)
 
-token-end-requires : tie.Need-token-end-requires
-token-end-requires c κs = search needs
-
-sub-read-pair : tie.Need-sub-read-pair
-sub-read-pair c = search needs
-
-part-read-pair-start : tie.Need-part-read-pair-start
-part-read-pair-start c = search needs
-
-part-read-pair-end : tie.Need-part-read-pair-end
-part-read-pair-end c = end-within _ _ _ (c .before .if1 .left) (c .token-end .ensures)
-
-read-pair-requires : tie.Need-read-pair-requires
-read-pair-requires c κs = search needs
+leading-pair-requires : tie.Need-leading-pair-requires
+leading-pair-requires c κs = search needs
 
 enum-known-pair : tie.Need-enum-known-pair
 enum-known-pair c = search needs
+
+ended-requires : tie.Need-ended-requires
+ended-requires c κs = search needs
 
 enum-told : tie.Need-enum-told
 enum-told c = search needs
 
 returns-2 : tie.Need-returns-2
-returns-2 c = sym (ap (endingAt _) (c .before .pair .given .1)) ∙ read-token _ _ _ (c .before .before .before .before .before .before .before .skip-space .ensures) (c .before .before .before .before .before .before .if1 .left) _ _ (c .before .before .before .before .before .token-end .ensures) (c .before .before .before .read-pair .ensures)
+returns-2 c = c .ended .ensures ∙ read-led _ _ _ (c .before .before .before .before .before .before .skip-space .ensures) (c .before .before .before .before .before .if1 .left) _ _ (sym (c .before .before .before .before .leading-pair .ensures) ∙ c .before .before .pair .given .1)
 
 returns-3 : tie.Need-returns-3
-returns-3 c = sym (ap (endingAt _) (c .enum-told .given .1)) ∙ read-token _ _ _ (c .before .before .before .before .before .before .skip-space .ensures) (c .before .before .before .before .before .if1 .left) _ _ (c .before .before .before .before .token-end .ensures) (c .before .before .read-pair .ensures)
+returns-3 c = read-none _ _ _ (c .before .before .before .before .skip-space .ensures) (c .before .before .before .if1 .left) (sym (c .before .before .leading-pair .ensures) ∙ c .enum-told .given .1)
 
 pub next-pair-spec : {M : Type 1} → statement M
 next-pair-spec =
@@ -45,12 +35,9 @@ next-pair-spec =
     (tie.spec
     skip-space-requires
     returns
-    token-end-requires
-    sub-read-pair
-    part-read-pair-start
-    part-read-pair-end
-    read-pair-requires
+    leading-pair-requires
     enum-known-pair
+    ended-requires
     enum-told
     returns-2
     returns-3)

@@ -11,10 +11,10 @@ use Rattle.rules.proofs.codes.code_of.Statement.{statement}
 use Rattle.rules.proofs.codes.code_of.Tie as tie
 
 abbrev Inv-loop : tie.InvT-loop
-Inv-loop class t range i₀ i = (range .first ≤ i) × (find (i - range .first + 1) t (between i (range .until)) ≡ codeOf class t)
+Inv-loop class t range i₀ i = (range .from ≤ i) × (find (i - range .from + 1) t (between i (range .end)) ≡ codeOf class t)
 
 abbrev μ-loop : tie.MeasureT-loop
-μ-loop class t range i₀ i = range .until - i
+μ-loop class t range i₀ i = range .end - i
 
 range-of-requires : tie.Need-range-of-requires Inv-loop μ-loop
 range-of-requires c κs = search needs

@@ -3,7 +3,7 @@ use Prim.Native.Nat.{_-_}
 use native.Mathlib.Omega.{arith}
 use lib.ListN.{length}
 use borrow.Author.Needs.{needs}
-use Rattle.schema.proofs.Hash.{hashed, found-low, found-fits, not-short, not-long, found-class}
+use Rattle.schema.proofs.Hash.{hashed, found-low, class-fits, not-short, not-long, found-class}
 use Rattle.schema.proofs.names.candidate.Statement.{statement}
 use Rattle.schema.proofs.names.candidate.Tie as tie
 
@@ -34,36 +34,35 @@ shared-slice-read-last c = search needs
 cast-last : tie.Need-cast-last
 cast-last c = omega (arith, c .shared-slice-known3 .given (length (c .before .before .before .before .before .args .t .now) - 1))
 
-mul-result : tie.Need-mul-result
-mul-result c = omega (arith, c .shared-slice-known3 .given 2)
-
 add-result : tie.Need-add-result
-add-result c = let b = c .shared-slice-known3 .given in omega (arith, b 0, b 2)
+add-result c = omega (arith, c .shared-slice-known3 .given 0, c .before .before .before .if2 .left)
 
-add-result-2 : tie.Need-add-result-2
-add-result-2 c =
-    let b = c .shared-slice-known3 .given in
-    omega (arith, b 0, b 2, b (length (c .before .before .before .before .before .args .t .now) - 1))
+mul-result : tie.Need-mul-result
+mul-result c = omega (arith, c .shared-slice-known3 .given 0, c .before .before .before .if2 .left)
 
 mul-result-2 : tie.Need-mul-result-2
-mul-result-2 c = search needs
+mul-result-2 c = omega (arith, c .shared-slice-known3 .given 2)
 
-index-1-result : tie.Need-index-1-result
-index-1-result c = search needs
+add-result-2 : tie.Need-add-result-2
+add-result-2 c = let b = c .shared-slice-known3 .given in omega (arith, b 0, b 2, c .before .before .before .if2 .left)
 
-index-2-result : tie.Need-index-2-result
-index-2-result c = search needs
+mul-result-3 : tie.Need-mul-result-3
+mul-result-3 c = omega (arith, c .shared-slice-known3 .given (length (c .before .before .before .before .before .args .t .now) - 1))
 
-cast-result : tie.Need-cast-result
-unfolding hashed
-cast-result c = let a = c .before .before .before .before in found-fits (a .before .before .args .t .now) (a .if2 .left)
+add-result-3 : tie.Need-add-result-3
+add-result-3 c =
+    let b = c .shared-slice-known3 .given in
+    omega (arith, b 0, b 2, b (length (c .before .before .before .before .before .args .t .now) - 1), c .before .before .before .if2 .left)
+
+array-read-result : tie.Need-array-read-result
+array-read-result c = search needs
 
 returns-3 : tie.Need-returns-3
 unfolding hashed
-returns-3 c =
-    let a = c .before .before .before .before in
-    let t = a .before .before .args .t .now in
-    (found-low t (a .if2 .left), found-class t)
+returns-3 c = let t = c .before .before .before .before .before .args .t .now in (found-low t, found-class t)
+
+cast-result : tie.Need-cast-result
+cast-result c = class-fits _ (returns-3 c .0)
 
 pub candidate-spec : {M : Type 1} → statement M
 candidate-spec =
@@ -78,11 +77,12 @@ candidate-spec =
     sub-last
     shared-slice-read-last
     cast-last
-    mul-result
     add-result
-    add-result-2
+    mul-result
     mul-result-2
-    index-1-result
-    index-2-result
+    add-result-2
+    mul-result-3
+    add-result-3
+    array-read-result
     cast-result
     returns-3)

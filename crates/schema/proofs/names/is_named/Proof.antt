@@ -2,7 +2,7 @@
 use mathlib.Core.Path.{ap, _∙_}
 use borrow.Author.Needs.{needs}
 use Rattle.text.specs.Logic.{eql}
-use Rattle.schema.proofs.Spelling.{text, starts, starts-within, starts-order, part-name, no-name}
+use Rattle.schema.proofs.Spelling.{text, starts, starts-within, starts-order, start-fits, end-fits, part-name, no-name}
 use Rattle.schema.proofs.names.is_named.Statement.{statement}
 use Rattle.schema.proofs.names.is_named.Tie as tie
 
@@ -15,6 +15,10 @@ mul-start c = search needs
 array-read-start : tie.Need-array-read-start
 array-read-start c = search needs
 
+cast-start : tie.Need-cast-start
+unfolding starts
+cast-start c = start-fits (c .before .before .args .class) (c .if1 .left)
+
 add-end : tie.Need-add-end
 add-end c = search needs
 
@@ -23,6 +27,10 @@ mul-end c = search needs
 
 array-read-end : tie.Need-array-read-end
 array-read-end c = search needs
+
+cast-end : tie.Need-cast-end
+unfolding starts
+cast-end c = end-fits (c .before .before .args .class) (c .if1 .left)
 
 sub-equals : tie.Need-sub-equals
 unfolding text starts
@@ -53,9 +61,11 @@ is-named-spec =
     returns
     mul-start
     array-read-start
+    cast-start
     add-end
     mul-end
     array-read-end
+    cast-end
     sub-equals
     part-equals-start
     part-equals-end

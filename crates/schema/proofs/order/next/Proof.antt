@@ -1,34 +1,65 @@
--- The entry read is the one that the particles give; outside the table there is none.
+-- The part of the table that the row lies in answers; outside the table there is nothing.
+use mathlib.Core.Path.{_≡_}
+use Prim.Native.Nat.{_+_, _-_}
+use native.Mathlib.Omega.{arith}
 use borrow.Author.Needs.{needs}
-use Rattle.schema.proofs.Table.{table, entry-is, no-row, no-class}
-use Rattle.schema.proofs.Rows.{entry-fits}
+use Rattle.schema.proofs.Table.{no-row}
 use Rattle.schema.proofs.order.next.Statement.{statement}
 use Rattle.schema.proofs.order.next.Tie as tie
 
+in-document-requires : tie.Need-in-document-requires
+in-document-requires c κs = search needs
+
 returns : tie.Need-returns
-returns c = no-row (c .before .args .row) (c .before .args .class) (c .if1 .taken)
+returns c = search needs
+
+in-alert-requires : tie.Need-in-alert-requires
+in-alert-requires c κs = search needs
 
 returns-2 : tie.Need-returns-2
-returns-2 c = let a = c .before .before .args in no-class (a .row) (a .class) (c .before .if1 .left) (c .if2 .taken)
+returns-2 c = let r = c .before .before .before .args .row in let e : 3 + (r - 3) ≡ r = omega arith in rw e at (c .in-alert .ensures)
 
-mul-result : tie.Need-mul-result
-mul-result c = search needs
-
-index-1-result : tie.Need-index-1-result
-index-1-result c = search needs
-
-index-2-result : tie.Need-index-2-result
-index-2-result c = search needs
-
-cast-result : tie.Need-cast-result
-unfolding table
-cast-result c = let a = c .before .before .before .args in entry-fits (a .row) (a .class) (c .before .before .if1 .left) (c .before .if2 .left)
+in-info-requires : tie.Need-in-info-requires
+in-info-requires c κs = search needs
 
 returns-3 : tie.Need-returns-3
-unfolding table
-returns-3 c = let a = c .before .before .before .args in entry-is (a .row) (a .class) (c .before .before .if1 .left) (c .before .if2 .left)
+returns-3 c = let r = c .before .before .before .before .args .row in let e : 18 + (r - 18) ≡ r = omega arith in rw e at (c .in-info .ensures)
+
+in-resource-requires : tie.Need-in-resource-requires
+in-resource-requires c κs = search needs
+
+returns-4 : tie.Need-returns-4
+returns-4 c = let r = c .before .before .before .before .before .args .row in let e : 40 + (r - 40) ≡ r = omega arith in rw e at (c .in-resource .ensures)
+
+in-area-requires : tie.Need-in-area-requires
+in-area-requires c κs = search needs
+
+returns-5 : tie.Need-returns-5
+returns-5 c = let r = c .before .before .before .before .before .before .args .row in let e : 47 + (r - 47) ≡ r = omega arith in rw e at (c .in-area .ensures)
+
+in-pair-requires : tie.Need-in-pair-requires
+in-pair-requires c κs = search needs
+
+returns-6 : tie.Need-returns-6
+returns-6 c = let r = c .before .before .before .before .before .before .before .args .row in let e : 54 + (r - 54) ≡ r = omega arith in rw e at (c .in-pair .ensures)
+
+returns-7 : tie.Need-returns-7
+returns-7 c = let s = c .before .before .before .before .before .before in no-row (s .args .row) (s .args .class) (c .if6 .left)
 
 pub next-spec : {M : Type 1} → statement M
 next-spec =
     tie.close
-    (tie.spec returns returns-2 mul-result index-1-result index-2-result cast-result returns-3)
+    (tie.spec
+    in-document-requires
+    returns
+    in-alert-requires
+    returns-2
+    in-info-requires
+    returns-3
+    in-resource-requires
+    returns-4
+    in-area-requires
+    returns-5
+    in-pair-requires
+    returns-6
+    returns-7)

@@ -1,22 +1,13 @@
--- The table agrees with the definition at every byte.
-use native.Mathlib.Omega.{arith}
+-- The test of a control byte is the definition's, and so are the others.
 use borrow.Author.Needs.{needs}
-use Rattle.xml.proofs.ByteKinds.{plainBytes, plain-marked}
 use Rattle.xml.proofs.bytes.is_plain.Tie as tie
 use Rattle.xml.proofs.bytes.is_plain.Statement.{statement}
 
-mul-result : tie.Need-mul-result
-mul-result c = search needs
-
-index-1-result : tie.Need-index-1-result
-index-1-result c = search needs
-
-index-2-result : tie.Need-index-2-result
-index-2-result c = search needs
+is-control-requires : tie.Need-is-control-requires
+is-control-requires c κs = search needs
 
 returns : tie.Need-returns
-unfolding plainBytes
-returns c = plain-marked (c .before .args .b) (omega arith)
+returns c = rw (c .is-control .ensures)
 
 pub is-plain-spec : {M : Type 1} → statement M
-is-plain-spec = tie.close (tie.spec mul-result index-1-result index-2-result returns)
+is-plain-spec = tie.close (tie.spec is-control-requires returns)

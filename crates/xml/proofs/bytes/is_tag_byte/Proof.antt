@@ -1,22 +1,27 @@
--- The table agrees with the definition at every byte.
+-- The masks agree with the definition at every byte.
 use native.Mathlib.Omega.{arith}
 use borrow.Author.Needs.{needs}
-use Rattle.xml.proofs.ByteKinds.{tagBytes, tag-marked}
+use Rattle.xml.proofs.ByteKinds.{tag-low, tag-high, tag-none}
 use Rattle.xml.proofs.bytes.is_tag_byte.Tie as tie
 use Rattle.xml.proofs.bytes.is_tag_byte.Statement.{statement}
 
-mul-result : tie.Need-mul-result
-mul-result c = search needs
-
-index-1-result : tie.Need-index-1-result
-index-1-result c = search needs
-
-index-2-result : tie.Need-index-2-result
-index-2-result c = search needs
+shr-result : tie.Need-shr-result
+shr-result c = search needs
 
 returns : tie.Need-returns
-unfolding tagBytes
-returns c = tag-marked (c .before .args .b) (omega arith)
+returns c = tag-low (c .before .args .b) (c .if1 .taken)
+
+cast-result : tie.Need-cast-result
+cast-result c = search needs
+
+shr-result-2 : tie.Need-shr-result-2
+shr-result-2 c = search needs
+
+returns-2 : tie.Need-returns-2
+returns-2 c = tag-high (c .before .before .args .b) (c .before .if1 .left) (c .if2 .taken)
+
+returns-3 : tie.Need-returns-3
+returns-3 c = tag-none (c .before .before .args .b) (c .if2 .left) (omega arith)
 
 pub is-tag-byte-spec : {M : Type 1} → statement M
-is-tag-byte-spec = tie.close (tie.spec mul-result index-1-result index-2-result returns)
+is-tag-byte-spec = tie.close (tie.spec shr-result returns cast-result shr-result-2 returns-2 returns-3)

@@ -1,13 +1,11 @@
--- From each place on, behind bytes without a fault, the text is what it is from the start on.
-use mathlib.Core.Path.{_≡_, refl, sym, _∙_}
-use mathlib.Core.Logic.{⊎-elim}
+-- From each place on, behind plain bytes and others without a fault, the text is what it is from the start on.
+use mathlib.Core.Path.{_≡_, sym, _∙_}
 use Prim.Native.Nat.{_-_}
 use native.Mathlib.Omega.{arith}
 use lib.ListN.{length}
 use borrow.Author.Needs.{needs}
-use borrow.Author.Tests.{not-false}
 use Rattle.xml.specs.Texts.{content}
-use Rattle.xml.proofs.Faults.{content-on, content-plain, content-stop, content-fault, content-none}
+use Rattle.xml.proofs.Faults.{content-on, content-stop, content-fault, content-none, content-run}
 use Rattle.xml.proofs.texts.read_text.Tie as tie
 use Rattle.xml.proofs.texts.read_text.Statement.{statement}
 
@@ -17,17 +15,17 @@ Inv-loop s at i₀ i = content s i ≡ content s at
 abbrev μ-loop : tie.MeasureT-loop
 μ-loop s at i₀ i = length s - i
 
+plain-end-requires : tie.Need-plain-end-requires Inv-loop μ-loop
+plain-end-requires c κs = search needs
+
 loop-holds : tie.Need-loop-holds Inv-loop μ-loop
-loop-holds c = refl
+loop-holds c = content-run _ _ _ (c .plain-end .ensures)
 
-shared-slice-read-b : tie.Need-shared-slice-read-b Inv-loop μ-loop
-shared-slice-read-b c = search needs
-
-is-plain-requires : tie.Need-is-plain-requires Inv-loop μ-loop
-is-plain-requires c κs = search needs
+shared-slice-read-if1 : tie.Need-shared-slice-read-if1 Inv-loop μ-loop
+shared-slice-read-if1 c = search needs
 
 returns : tie.Need-returns Inv-loop μ-loop
-returns c = sym (content-stop _ _ (c .before .before .before .before .loop-test .taken) (c .if2 .taken)) ∙ c .before .before .before .before .before .loop .inv
+returns c = sym (content-stop _ _ (c .before .before .loop-test .taken) (c .if1 .taken)) ∙ c .before .before .before .loop .inv
 
 is-fault-requires : tie.Need-is-fault-requires Inv-loop μ-loop
 is-fault-requires c κs = search needs
@@ -36,20 +34,27 @@ faulty-requires : tie.Need-faulty-requires Inv-loop μ-loop
 faulty-requires c κs = search needs
 
 returns-2 : tie.Need-returns-2 Inv-loop μ-loop
-returns-2 c = c .faulty .ensures ∙ (sym (content-fault _ _ (c .before .before .before .before .before .before .before .loop-test .taken) (c .before .before .before .if2 .left) (sym (c .before .before .is-fault .ensures) ∙ c .before .if3 .taken)) ∙ c .before .before .before .before .before .before .before .before .loop .inv)
+returns-2 c =
+    let fault = sym (c .before .before .is-fault .ensures) ∙ c .before .if2 .taken in
+    c .faulty .ensures
+    ∙ (sym (content-fault _ _ (c .before .before .before .before .before .loop-test .taken) (c .before .before .before .if1 .left) fault)
+    ∙ c .before .before .before .before .before .before .loop .inv)
 
-add-i : tie.Need-add-i Inv-loop μ-loop
-add-i c = omega arith
+add-plain-end : tie.Need-add-plain-end Inv-loop μ-loop
+add-plain-end c = omega arith
+
+plain-end-requires-2 : tie.Need-plain-end-requires-2 Inv-loop μ-loop
+plain-end-requires-2 c κs = search needs
 
 loop-less : tie.Need-loop-less Inv-loop μ-loop
 loop-less c = omega arith
 
 loop-again : tie.Need-loop-again Inv-loop μ-loop
 loop-again c =
-    ⊎-elim
-    (λ w. sym (content-on _ _ (c .before .before .before .loop-test .taken) (w .1 .left) (sym (w .2 .ensures) ∙ w .3 .left)) ∙ c .before .before .before .before .loop .inv)
-    (λ w. sym (content-plain _ _ (c .before .before .before .loop-test .taken) (sym (c .before .is-plain .ensures) ∙ not-false _ (w .left))) ∙ c .before .before .before .before .loop .inv)
-    (c .if1 .came)
+    let fine = sym (c .before .before .is-fault .ensures) ∙ c .before .if2 .left in
+    content-run _ _ _ (c .plain-end2 .ensures)
+    ∙ (sym (content-on _ _ (c .before .before .before .before .before .loop-test .taken) (c .before .before .before .if1 .left) fine)
+    ∙ c .before .before .before .before .before .before .loop .inv)
 
 returns-3 : tie.Need-returns-3 Inv-loop μ-loop
 returns-3 c = sym (content-none _ _ (c .loop-test .left)) ∙ c .before .loop .inv
@@ -60,14 +65,15 @@ read-text-spec =
     (tie.spec
     Inv-loop
     μ-loop
+    plain-end-requires
     loop-holds
-    shared-slice-read-b
-    is-plain-requires
+    shared-slice-read-if1
     returns
     is-fault-requires
     faulty-requires
     returns-2
-    add-i
+    add-plain-end
+    plain-end-requires-2
     loop-less
     loop-again
     returns-3)

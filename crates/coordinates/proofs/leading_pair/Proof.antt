@@ -1,0 +1,75 @@
+-- `leading_pair` meets its contract: each way through it is one law of `leadingPair`.
+use mathlib.Core.Path.{sym, _∙_}
+use Prim.Native.Char.{code}
+use native.Mathlib.Omega.{arith}
+use borrow.Author.Tests.{not-true, not-false}
+use borrow.Author.Needs.{needs}
+use Rattle.coordinates.proofs.Leading.{leads-in}
+use Rattle.coordinates.proofs.Readers.{no-leading-latitude, no-leading-comma, no-leading-longitude, both-lead}
+use Rattle.coordinates.proofs.leading_pair.Statement.{statement}
+use Rattle.coordinates.proofs.leading_pair.Tie as tie
+
+coordinate-at-requires : tie.Need-coordinate-at-requires
+coordinate-at-requires c κs = search needs
+
+enum-known-y : tie.Need-enum-known-y
+enum-known-y c = search needs
+
+enum-told : tie.Need-enum-told
+enum-told c = search needs
+
+returns : tie.Need-returns
+returns c = no-leading-latitude _ _ (sym (c .before .before .coordinate-at .ensures) ∙ c .enum-told .given .1)
+
+leads-requires : tie.Need-leads-requires
+leads-requires c κs = search needs
+
+returns-2 : tie.Need-returns-2
+returns-2 c =
+    no-leading-comma _ _ _ _ (sym (c .before .before .before .before .before .coordinate-at .ensures) ∙ c .before .before .before .y .given .1)
+    (sym (c .before .leads .ensures) ∙ not-true _ (c .if1 .taken))
+
+add-coordinate-at : tie.Need-add-coordinate-at
+add-coordinate-at c =
+    omega (
+      arith,
+      leads-in (c .before .before .before .before .before .before .before .args .text .now) (c .before .before .before .y .given .0 .1 .0) (code ",") (sym (c .before .leads .ensures) ∙ not-false _ (c .if1 .left)),
+    )
+
+coordinate-at-requires-2 : tie.Need-coordinate-at-requires-2
+coordinate-at-requires-2 c κs = search needs
+
+enum-known-x : tie.Need-enum-known-x
+enum-known-x c = search needs
+
+enum-told-2 : tie.Need-enum-told-2
+enum-told-2 c = search needs
+
+returns-3 : tie.Need-returns-3
+returns-3 c =
+    let e = c .before .before .before .before in
+    both-lead _ _ _ _ (sym (e .before .before .before .before .before .coordinate-at .ensures) ∙ e .before .before .before .y .given .1) (sym (e .before .leads .ensures) ∙ not-false _ (e .if1 .left))
+    _ _ (sym (c .before .before .before .coordinate-at2 .ensures) ∙ c .before .x .given .1) (e .before .before .known-told .given .0 .1) (c .known-told2 .given .0 .1)
+
+returns-4 : tie.Need-returns-4
+returns-4 c =
+    let e = c .before .before .before in
+    no-leading-longitude _ _ _ _ (sym (e .before .before .before .before .before .coordinate-at .ensures) ∙ e .before .before .before .y .given .1) (sym (e .before .leads .ensures) ∙ not-false _ (e .if1 .left))
+    (sym (c .before .before .coordinate-at2 .ensures) ∙ c .enum-told2 .given .1)
+
+pub leading-pair-spec : {M : Type 1} → statement M
+leading-pair-spec =
+    tie.close
+    (tie.spec
+    coordinate-at-requires
+    enum-known-y
+    enum-told
+    returns
+    leads-requires
+    returns-2
+    add-coordinate-at
+    coordinate-at-requires-2
+    enum-known-x
+    enum-told-2
+    returns-3
+    returns-4)

@@ -1,0 +1,154 @@
+-- The numbers of a sheet stand for that sheet: a caller who hands the numbers that it got from a text on to the writer writes the same sheet.
+use mathlib.Core.Path.{_≡_, refl}
+use mathlib.Core.Bool.{Bool, true, false, not, _&&_}
+use mathlib.Core.List.{[], _∷_}
+use Prim.Native.Nat.{_<_}
+use native.Mathlib.Omega.{arith}
+use lib.Dec.{eqb, ltb, leb}
+use borrow.Author.Tests.{leb-true, lt-ltb, ne-eqb, not-true}
+use Rattle.text.specs.Logic.{and-right, and-comm}
+use Rattle.words.specs.Duration.{isLasting}
+use Rattle.sheet.specs.declared.MessageType.{MessageType}
+use Rattle.sheet.specs.declared.Status.{Status}
+use Rattle.sheet.specs.declared.Scope.{Scope}
+use Rattle.sheet.specs.declared.Lasting.{Lasting}
+use Rattle.sheet.specs.declared.Lasting.the-variants.{Unstated, Seconds}
+use Rattle.sheet.specs.declared.Part.{Part}
+use Rattle.sheet.specs.declared.Parts.{Parts}
+use Rattle.sheet.specs.declared.Parts.the-variants.{Nothing, One}
+use Rattle.sheet.specs.declared.CapFacts.{CapFacts}
+use Rattle.sheet.specs.declared.WarnFacts.{WarnFacts}
+use Rattle.sheet.specs.declared.Span.{Span}
+use Rattle.sheet.specs.CodePlaces.{messageNumber, statusNumber, scopeNumber}
+use Rattle.sheet.specs.CodePlaces.{message-at, status-at, scope-at, urgency-at, severity-at, certainty-at}
+use Rattle.sheet.specs.Sheet.{warn, isLastingTime, isParts, fitsPacket, inRange}
+use Rattle.sheet.proofs.Limits.{lasting-range, warn-range}
+use Rattle.warnbox.specs.Numbers.{isFlag, arePart, areCap, lastingFrom, partFrom, capFrom, senderFrom, nameFrom, areWarn, warnFrom}
+use Rattle.warnbox.specs.Numbers.{statedOf, secondsOf, numbersOfNone, numbersOfPart, withParts, capNumbers, warnNumbers}
+use Rattle.warnbox.proofs.Tests.{joined-at}
+use Rattle.warnbox.proofs.Flags.{flag-is, flag-back}
+use Rattle.warnbox.proofs.CodeNumbers.{message-is, status-is, scope-is, urgency-is, severity-is, certainty-is}
+
+-- ---- CAP
+
+-- a part's facts fit their numbers; part 0 of 0 is no part
+unfoldable pub fitsNumbers : Parts → Bool
+fitsNumbers Nothing = true
+fitsNumbers (One p) =
+    not (eqb (p .number) 0 && eqb (p .total) 0) && ltb (p .number) 0x100 && ltb (p .total) 0x100 && ltb (secondsOf (p .lasting)) 0x1_0000_0000
+
+part-tests :
+    (p : Part) → fitsNumbers (One p) ≡ true
+    → (eqb (p .number) 0 && eqb (p .total) 0 ≡ false)
+    × (ltb (p .number) 0x100 ≡ true)
+    × (ltb (p .total) 0x100 ≡ true)
+    × (ltb (secondsOf (p .lasting)) 0x1_0000_0000 ≡ true)
+unfolding fitsNumbers
+part-tests p e =
+    let passed =
+    joined-at true
+    (not (eqb (p .number) 0 && eqb (p .total) 0) ∷ ltb (p .number) 0x100 ∷ ltb (p .total) 0x100 ∷ ltb (secondsOf (p .lasting)) 0x1_0000_0000 ∷ [])
+    e
+    in
+    (not-true (eqb (p .number) 0 && eqb (p .total) 0) (passed 0), passed 1, passed 2, passed 3)
+
+stated-is : (x : Lasting) → isFlag (statedOf x) ≡ true
+stated-is Unstated = refl
+stated-is (Seconds s) = refl
+
+lasting-back : (x : Lasting) → lastingFrom (statedOf x) (secondsOf x) ≡ x
+lasting-back Unstated = refl
+lasting-back (Seconds s) = refl
+
+-- by cases on the part
+module _ (x : MessageType) (y : Status) (z : Scope) (sender name : Span) where
+  parts-are : (p : Parts) → fitsNumbers p ≡ true → areCap (withParts (messageNumber x) (statusNumber y) (scopeNumber z) sender name p) ≡ true
+  unfolding areCap arePart numbersOfNone numbersOfPart
+  parts-are Nothing e = rw (message-is x, status-is y, scope-is z)
+  parts-are (One p) e =
+      let t = part-tests p e in
+      rw (
+        message-is x,
+        status-is y,
+        scope-is z,
+        t .0,
+        t .1,
+        t .2,
+        urgency-is (p .urgency),
+        severity-is (p .severity),
+        certainty-is (p .certainty),
+        stated-is (p .lasting),
+        t .3,
+      )
+
+  parts-back :
+      (p : Parts) → fitsNumbers p ≡ true
+      → capFrom (withParts (messageNumber x) (statusNumber y) (scopeNumber z) sender name p) ≡ record { message = x; status = y; scope = z; parts = p }
+  unfolding capFrom partFrom numbersOfNone numbersOfPart
+  parts-back Nothing e = rw (message-at x, status-at y, scope-at z)
+  parts-back (One p) e =
+      rw (
+        message-at x,
+        status-at y,
+        scope-at z,
+        part-tests p e .0,
+        urgency-at (p .urgency),
+        severity-at (p .severity),
+        certainty-at (p .certainty),
+        lasting-back (p .lasting),
+      )
+
+  spans-back :
+      (p : Parts)
+      → (senderFrom (withParts (messageNumber x) (statusNumber y) (scopeNumber z) sender name p) ≡ sender)
+      × (nameFrom (withParts (messageNumber x) (statusNumber y) (scopeNumber z) sender name p) ≡ name)
+  unfolding numbersOfNone numbersOfPart
+  spans-back Nothing = (refl, refl)
+  spans-back (One p) = (refl, refl)
+
+pub cap-back :
+    (f : CapFacts) (sender name : Span) → fitsNumbers (f .parts) ≡ true
+    → (areCap (capNumbers f sender name) ≡ true)
+    × (capFrom (capNumbers f sender name) ≡ f)
+    × (senderFrom (capNumbers f sender name) ≡ sender)
+    × (nameFrom (capNumbers f sender name) ≡ name)
+cap-back f sender name e =
+    let spans = spans-back (f .message) (f .status) (f .scope) sender name (f .parts) in (
+      parts-are (f .message) (f .status) (f .scope) sender name (f .parts) e,
+      parts-back (f .message) (f .status) (f .scope) sender name (f .parts) e,
+      spans .0,
+      spans .1,
+    )
+
+seconds-fit : (x : Lasting) → isLastingTime x ≡ true → secondsOf x < 0x1_0000_0000
+seconds-fit Unstated e = omega arith
+seconds-fit (Seconds s) e = let r = lasting-range s e in omega arith
+
+-- the part of each sheet in range fits
+pub range-fits : (p : Parts) → isParts p ≡ true → fitsNumbers p ≡ true
+unfolding isParts fitsNumbers
+range-fits Nothing e = refl
+range-fits (One p) e =
+    let passed = joined-at true (leb 1 (p .number) ∷ leb (p .number) (p .total) ∷ leb (p .total) 16 ∷ isLastingTime (p .lasting) ∷ []) e in
+    let some = leb-true 1 (p .number) (passed 0) in
+    let within = leb-true (p .number) (p .total) (passed 1) in
+    let few = leb-true (p .total) 16 (passed 2) in
+    rw (
+      ne-eqb (p .number) 0 (λ z. omega arith),
+      lt-ltb (p .number) 0x100 (omega arith),
+      lt-ltb (p .total) 0x100 (omega arith),
+      lt-ltb (secondsOf (p .lasting)) 0x1_0000_0000 (seconds-fit (p .lasting) (passed 3)),
+    )
+
+-- ---- WARN
+
+pub warn-back :
+    (w : WarnFacts) → fitsPacket w ≡ true → w .lasting < 0x1_0000_0000 → (areWarn (warnNumbers w) ≡ true) × (warnFrom (warnNumbers w) ≡ w)
+unfolding fitsPacket areWarn warnFrom warnNumbers
+warn-back w e h =
+    (simp (flag-is, lt-ltb (w .lasting) 0x1_0000_0000 h) (rw (and-comm _ true) e), simp flag-back)
+
+-- each sheet in range fits
+pub warn-fits : (w : WarnFacts) → inRange (warn w) ≡ true → (fitsPacket w ≡ true) × (w .lasting < 0x1_0000_0000)
+unfolding inRange
+warn-fits w e = let r = warn-range w e in (and-right (isLasting (w .lasting)) (fitsPacket w) e, omega arith)

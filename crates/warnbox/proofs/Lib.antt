@@ -1,0 +1,7 @@
+pub mod Tests
+pub mod Flags
+pub mod CodeNumbers
+pub mod BackAndForth
+pub mod Pairs
+pub mod Places
+pub mod Writing

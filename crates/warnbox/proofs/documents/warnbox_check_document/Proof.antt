@@ -1,0 +1,20 @@
+-- The answer to the check, as number and value.
+use borrow.Author.Needs.{needs}
+use mathlib.Core.Path.{ap, _∙_}
+use Rattle.warnbox.specs.Answers.{checkAnswer}
+use Rattle.warnbox.proofs.Pairs.{apart}
+use Rattle.warnbox.proofs.documents.warnbox_check_document.Statement.{statement}
+use Rattle.warnbox.proofs.documents.warnbox_check_document.Tie as tie
+
+check-document-requires : tie.Need-check-document-requires
+check-document-requires c κs = search needs
+
+check-answer-requires : tie.Need-check-answer-requires
+check-answer-requires c κs = search needs
+
+returns : tie.Need-returns
+returns c = apart (c .check-answer .ensures ∙ ap checkAnswer (c .before .check-document .ensures))
+
+pub warnbox-check-document-spec : {M : Type 1} → statement M
+warnbox-check-document-spec =
+    tie.close (tie.spec check-document-requires check-answer-requires returns)

@@ -1,0 +1,26 @@
+-- The answer to writing what was drawn, as number and value; and the buffer that the writer leaves.
+use borrow.Author.Needs.{needs}
+use mathlib.Core.Path.{ap, _∙_}
+use Rattle.warnbox.specs.Sentences.{partSentence, partAfter}
+use Rattle.warnbox.proofs.Pairs.{apart}
+use Rattle.warnbox.proofs.documents.warnbox_document_sentence.Statement.{statement}
+use Rattle.warnbox.proofs.documents.warnbox_document_sentence.Tie as tie
+
+cap-sheet-requires : tie.Need-cap-sheet-requires
+cap-sheet-requires c κs = search needs
+
+write-drawn-requires : tie.Need-write-drawn-requires
+write-drawn-requires c κs = search needs
+
+same-length : tie.Need-same-length
+same-length c = search needs
+
+returns : tie.Need-returns
+returns c =
+    let q = c .before .before .before .before .cap-sheet .ensures in
+    let e = apart (c .before .before .write-drawn .ensures .0 ∙ ap (partSentence _ _ _) q) in
+    (e .0, e .1, c .before .before .write-drawn .ensures .1 ∙ ap (partAfter _ _ _) q)
+
+pub warnbox-document-sentence-spec : {M : Type 1} → statement M
+warnbox-document-sentence-spec =
+    tie.close (tie.spec cap-sheet-requires write-drawn-requires same-length returns)

@@ -1,0 +1,76 @@
+-- What the functions for C give back: a refusal's number, 0 for none; and with it a value, which is a refusal's place or else what the function tells.
+-- Numbers and places are those that each answer's own definition gives.
+use Prim.Native.Nat.{ℕ}
+use Rattle.sheet.specs.declared.Wrote.{Wrote}
+use Rattle.sheet.specs.declared.Wrote.the-variants as wrote
+use Rattle.sheet.specs.declared.ReadBack.{ReadBack}
+use Rattle.sheet.specs.declared.ReadBack.the-variants as read
+use Rattle.sheet.specs.Answers.{Outcome, done, writeOutcome, readOutcome}
+use Rattle.sheet.specs.Answers as sheet
+use Rattle.packet.specs.declared.PacketPlace.{PacketPlace}
+use Rattle.packet.specs.declared.PacketPlace.the-variants as packet
+use Rattle.packet.specs.Packet.{placeNumber}
+use Rattle.document.specs.declared.Check.{Check}
+use Rattle.document.specs.declared.Check.the-variants as check
+use Rattle.parts.specs.declared.CapPlace.{CapPlace}
+use Rattle.parts.specs.declared.CapPlace.the-variants as cap
+use Rattle.parts.specs.Places.{placePlace}
+use Rattle.parts.specs.Places as parts
+use Rattle.warnbox.specs.declared.Answer.{Answer}
+
+abbrev pub told : ℕ → Answer
+told v = record { number = 0; value = v }
+
+abbrev pub refused : (number place : ℕ) → Answer
+refused n p = record { number = n; value = p }
+
+-- the value v, unless there is a refusal
+abbrev pub unless : Outcome → ℕ → Answer
+unless done v = told v
+unless (sheet.refused r) v = refused (r .number) (r .place)
+
+-- the number of parts
+abbrev pub checkAnswer : Check → Answer
+checkAnswer (check.Accepted parts) = told parts
+checkAnswer (check.Refused n p) = refused n p
+
+-- where the sentence ends
+abbrev pub endOf : Wrote → ℕ
+endOf (wrote.End e) = e
+endOf wrote.OutOfRange = 0
+endOf wrote.NoRoom = 0
+
+abbrev pub writeAnswer : Wrote → Answer
+writeAnswer w = unless (writeOutcome w) (endOf w)
+
+-- 0 outside, 1 inside, 2 no shape
+abbrev pub capPlaceValue : CapPlace → ℕ
+capPlaceValue cap.Outside = 0
+capPlaceValue cap.Inside = 1
+capPlaceValue cap.NoShape = 2
+capPlaceValue cap.NotThere = placePlace cap.NotThere
+capPlaceValue cap.OutOfRange = placePlace cap.OutOfRange
+capPlaceValue (cap.Refused n p) = placePlace (cap.Refused n p)
+
+abbrev pub capPlaceAnswer : CapPlace → Answer
+capPlaceAnswer x = record { number = parts.placeNumber x; value = capPlaceValue x }
+
+-- 0 outside, 1 inside; every refusal's place is 0
+abbrev pub packetPlaceValue : PacketPlace → ℕ
+packetPlaceValue packet.Outside = 0
+packetPlaceValue packet.Inside = 1
+packetPlaceValue packet.OutOfRange = 0
+packetPlaceValue (packet.Refused fault) = 0
+
+abbrev pub packetPlaceAnswer : PacketPlace → Answer
+packetPlaceAnswer x = record { number = placeNumber x; value = packetPlaceValue x }
+
+-- the number of read-backs
+abbrev pub countOf : ReadBack → ℕ
+countOf (read.Count n) = n
+countOf (read.Sheet n found) = n
+countOf (read.NotReadBack p) = 0
+countOf read.NotThere = 0
+
+abbrev pub readAnswer : ReadBack → Answer
+readAnswer x = unless (readOutcome x) (countOf x)

@@ -1,0 +1,79 @@
+// CAP documents.
+use crate::Answer;
+use crate::answers::cap_place_answer;
+use crate::answers::check_answer;
+use crate::answers::refused;
+use crate::answers::write_answer;
+use coordinates::Place;
+use parts::CapSheet;
+use sheet::span_in;
+ghost use mathlib.Core.Path.{_≡_};
+ghost use Rattle.document.specs.Documents.{checkOf};
+ghost use Rattle.parts.specs.Sheets.{capSheet};
+ghost use Rattle.parts.specs.Places.{capPlace};
+ghost use Rattle.warnbox.specs.Answers.{checkAnswer, capPlaceAnswer};
+ghost use Rattle.warnbox.specs.Sentences.{partSentence, partAfter};
+
+// Checks a document; the value is its number of parts.
+#[no_mangle]
+pub extern "C" fn warnbox_check_document(document: &[u8], value: &mut u64) -> u8
+    ensures { λ r. ⌜ (r ≡ checkAnswer (checkOf (now (document .entry))) .number) × (now (value .exit) ≡ checkAnswer (checkOf (now (document .entry))) .value) ⌝ }
+{
+    let answer = check_answer(document::check_document(document));
+    *value = answer.value;
+    answer.number
+}
+
+// Writes the sentence of a sheet that was drawn from a document.
+fn write_drawn(buffer: &mut [u8], start: usize, document: &[u8], drawn: CapSheet) -> Answer
+    ensures { λ r. ⌜ (r ≡ partSentence (now (buffer .entry)) start (now (document .entry)) drawn) × (now (buffer .exit) ≡ partAfter (now (buffer .entry)) start (now (document .entry)) drawn) ⌝ }
+{
+    match drawn {
+        CapSheet::Sheet(facts, sender, name) => write_answer(readback::write_cap(
+            buffer,
+            start,
+            facts,
+            span_in(document, sender),
+            span_in(document, name),
+        )),
+        CapSheet::NotThere => refused(21, 0),
+        CapSheet::OutOfRange => refused(7, 0),
+        CapSheet::Refused(number, place) => refused(number, place),
+    }
+}
+
+// Writes the sentence of a part of a document; the value is the sentence's end.
+#[no_mangle]
+pub extern "C" fn warnbox_document_sentence(
+    buffer: &mut [u8],
+    start: usize,
+    document: &[u8],
+    part: usize,
+    value: &mut u64,
+) -> u8
+    ensures { λ r. ⌜ (r ≡ partSentence (now (buffer .entry)) start (now (document .entry)) (capSheet part (now (document .entry))) .number)
+        × (now (value .exit) ≡ partSentence (now (buffer .entry)) start (now (document .entry)) (capSheet part (now (document .entry))) .value)
+        × (now (buffer .exit) ≡ partAfter (now (buffer .entry)) start (now (document .entry)) (capSheet part (now (document .entry)))) ⌝ }
+{
+    let drawn = parts::cap_sheet(document, part);
+    let answer = write_drawn(buffer, start, document, drawn);
+    *value = answer.value;
+    answer.number
+}
+
+// Whether a place is inside a part of a document; the value is 0 for outside, 1 for inside, 2 for no shape.
+#[no_mangle]
+pub extern "C" fn warnbox_document_place(
+    document: &[u8],
+    part: usize,
+    lat: i32,
+    lon: i32,
+    value: &mut u64,
+) -> u8
+    ensures { λ r. ⌜ (r ≡ capPlaceAnswer (capPlace part (record { lat = lat; lon = lon }) (now (document .entry))) .number)
+        × (now (value .exit) ≡ capPlaceAnswer (capPlace part (record { lat = lat; lon = lon }) (now (document .entry))) .value) ⌝ }
+{
+    let answer = cap_place_answer(parts::cap_place(document, part, Place { lat, lon }));
+    *value = answer.value;
+    answer.number
+}

@@ -1,0 +1,14 @@
+// The warning box for C: include/warnbox.h documents each function for its callers.
+// Every function gives the number of a refusal, 0 for none, and writes a value: a refusal's place, or else what the function tells.
+mod answers; // answers.rt: answers as numbers
+mod documents; // documents.rt: CAP documents
+mod numbers; // numbers.rt: sheets as numbers
+mod packets; // packets.rt: WARN packets
+mod sentences; // sentences.rt: writing a sheet, and reading a text back
+mod tables; // tables.rt: the event table
+
+// What a function gives back: the number of a refusal, 0 for none, and the value.
+pub struct Answer {
+    pub number: u8,
+    pub value: u64,
+}

@@ -1,0 +1,295 @@
+// Sheets as numbers: what each of the 15 stands for is in include/warnbox.h and in specs/Numbers.antt.
+use sheet::CapFacts;
+use sheet::Found;
+use sheet::Lasting;
+use sheet::Part;
+use sheet::Parts;
+use sheet::Span;
+use sheet::WarnFacts;
+use sheet::codes;
+ghost use mathlib.Core.Path.{_≡_};
+ghost use mathlib.Core.Bool.{true, cond};
+ghost use Prim.Native.Nat.{_<_};
+ghost use Rattle.warnbox.specs.Numbers.{isCode, isFlag, hasNoPart, arePart, areCap, lastingFrom, partFrom, capFrom, senderFrom, nameFrom};
+ghost use Rattle.warnbox.specs.Numbers.{areWarn, warnFrom, statedOf, secondsOf, numbersOfNone, numbersOfPart, capNumbers, warnNumbers, numbersOf};
+
+// ---- what numbers say
+
+fn is_code(many: u64, k: u64) -> bool
+    ensures { λ r. ⌜ r ≡ isCode many k ⌝ }
+{
+    (1 <= k) & (k <= many)
+}
+
+fn is_flag(k: u64) -> bool
+    ensures { λ r. ⌜ r ≡ isFlag k ⌝ }
+{
+    k <= 1
+}
+
+// Whether numbers say that there is no part.
+fn has_no_part(n: &[u64; 15]) -> bool
+    ensures { λ r. ⌜ r ≡ hasNoPart (now (n .entry)) ⌝ }
+{
+    (n[4] == 0) & (n[5] == 0)
+}
+
+// Whether numbers stand for a part.
+fn are_part(n: &[u64; 15]) -> bool
+    ensures { λ r. ⌜ r ≡ arePart (now (n .entry)) ⌝ }
+{
+    (n[4] < 0x100)
+        & (n[5] < 0x100)
+        & is_code(5, n[6])
+        & is_code(5, n[7])
+        & is_code(5, n[8])
+        & is_flag(n[9])
+        & (n[10] < 0x1_0000_0000)
+}
+
+// Whether numbers stand for a CAP sheet.
+pub fn are_cap(n: &[u64; 15]) -> bool
+    ensures { λ r. ⌜ r ≡ areCap (now (n .entry)) ⌝ }
+{
+    (n[0] == 1)
+        & is_code(5, n[1])
+        & is_code(5, n[2])
+        & is_code(3, n[3])
+        & (has_no_part(n) | are_part(n))
+}
+
+fn lasting_from(stated: u64, seconds: u64) -> Lasting
+    requires { ⌜ seconds < 0x1_0000_0000 ⌝ }
+    ensures { λ r. ⌜ r ≡ lastingFrom stated seconds ⌝ }
+{
+    if stated == 1 {
+        return Lasting::Seconds(seconds as u32);
+    }
+    Lasting::Unstated
+}
+
+fn part_from(n: &[u64; 15]) -> Part
+    requires { ⌜ arePart (now n) ≡ true ⌝ }
+    ensures { λ r. ⌜ r ≡ partFrom (now (n .entry)) ⌝ }
+{
+    Part {
+        number: n[4] as u8,
+        total: n[5] as u8,
+        urgency: codes::urgency_at(n[6] as usize),
+        severity: codes::severity_at(n[7] as usize),
+        certainty: codes::certainty_at(n[8] as usize),
+        lasting: lasting_from(n[9], n[10]),
+    }
+}
+
+fn parts_from(n: &[u64; 15]) -> Parts
+    requires { ⌜ areCap (now n) ≡ true ⌝ }
+    ensures { λ r. ⌜ r ≡ capFrom (now (n .entry)) .parts ⌝ }
+{
+    if has_no_part(n) {
+        return Parts::Nothing;
+    }
+    Parts::One(part_from(n))
+}
+
+// The CAP sheet that numbers stand for, but its sender and name.
+pub fn cap_from(n: &[u64; 15]) -> CapFacts
+    requires { ⌜ areCap (now n) ≡ true ⌝ }
+    ensures { λ r. ⌜ r ≡ capFrom (now (n .entry)) ⌝ }
+{
+    CapFacts {
+        message: codes::message_at(n[1] as usize),
+        status: codes::status_at(n[2] as usize),
+        scope: codes::scope_at(n[3] as usize),
+        parts: parts_from(n),
+    }
+}
+
+pub fn sender_from(n: &[u64; 15]) -> Span
+    ensures { λ r. ⌜ r ≡ senderFrom (now (n .entry)) ⌝ }
+{
+    Span {
+        start: n[11] as usize,
+        len: n[12] as usize,
+    }
+}
+
+pub fn name_from(n: &[u64; 15]) -> Span
+    ensures { λ r. ⌜ r ≡ nameFrom (now (n .entry)) ⌝ }
+{
+    Span {
+        start: n[13] as usize,
+        len: n[14] as usize,
+    }
+}
+
+// Whether numbers stand for a WARN sheet.
+pub fn are_warn(n: &[u64; 15]) -> bool
+    ensures { λ r. ⌜ r ≡ areWarn (now (n .entry)) ⌝ }
+{
+    (n[0] == 2)
+        & is_flag(n[1])
+        & is_flag(n[2])
+        & is_flag(n[3])
+        & is_flag(n[4])
+        & (n[5] < 0x1_0000_0000)
+        & (n[6] < 0x1_0000)
+        & (n[7] < 0x1_0000_0000)
+        & (n[8] < 0x1_0000_0000)
+        & (n[9] < 0x100)
+        & (n[10] < 0x100)
+        & (n[11] < 0x100)
+        & (n[12] < 0x100)
+        & (n[13] < 0x100)
+        & (n[14] < 0x100)
+}
+
+// The WARN sheet that numbers stand for.
+pub fn warn_from(n: &[u64; 15]) -> WarnFacts
+    requires { ⌜ areWarn (now n) ≡ true ⌝ }
+    ensures { λ r. ⌜ r ≡ warnFrom (now (n .entry)) ⌝ }
+{
+    WarnFacts {
+        urgent: n[1] == 1,
+        update: n[2] == 1,
+        cancel: n[3] == 1,
+        test: n[4] == 1,
+        event: n[5] as u32,
+        number: n[6] as u16,
+        origin: n[7] as u32,
+        lasting: n[8] as u32,
+        hazard: n[9] as u8,
+        kind: n[10] as u8,
+        urgency: n[11] as u8,
+        severity: n[12] as u8,
+        certainty: n[13] as u8,
+        response: n[14] as u8,
+    }
+}
+
+// ---- the numbers of a sheet
+
+fn stated_of(lasting: Lasting) -> u64
+    ensures { λ r. ⌜ r ≡ statedOf lasting ⌝ }
+{
+    match lasting {
+        Lasting::Unstated => 0,
+        Lasting::Seconds(seconds) => 1,
+    }
+}
+
+fn seconds_of(lasting: Lasting) -> u64
+    ensures { λ r. ⌜ r ≡ secondsOf lasting ⌝ }
+{
+    match lasting {
+        Lasting::Unstated => 0,
+        Lasting::Seconds(seconds) => seconds as u64,
+    }
+}
+
+// The numbers of a CAP sheet without parts, its codes by their numbers.
+fn numbers_of_none(message: u64, status: u64, scope: u64, sender: Span, name: Span) -> [u64; 15]
+    ensures { λ r. ⌜ r ≡ numbersOfNone message status scope sender name ⌝ }
+{
+    [
+        1,
+        message,
+        status,
+        scope,
+        0,
+        0,
+        0,
+        0,
+        0,
+        0,
+        0,
+        sender.start as u64,
+        sender.len as u64,
+        name.start as u64,
+        name.len as u64,
+    ]
+}
+
+// The numbers of a CAP sheet of a part.
+fn numbers_of_part(
+    message: u64,
+    status: u64,
+    scope: u64,
+    sender: Span,
+    name: Span,
+    p: Part,
+) -> [u64; 15]
+    ensures { λ r. ⌜ r ≡ numbersOfPart message status scope sender name p ⌝ }
+{
+    let urgency = p.urgency;
+    let severity = p.severity;
+    let certainty = p.certainty;
+    let lasting = p.lasting;
+    [
+        1,
+        message,
+        status,
+        scope,
+        p.number as u64,
+        p.total as u64,
+        codes::urgency_number(urgency) as u64,
+        codes::severity_number(severity) as u64,
+        codes::certainty_number(certainty) as u64,
+        stated_of(lasting),
+        seconds_of(lasting),
+        sender.start as u64,
+        sender.len as u64,
+        name.start as u64,
+        name.len as u64,
+    ]
+}
+
+// The numbers of a CAP sheet, by its facts and where its sender and name stand.
+fn cap_numbers(f: CapFacts, sender: Span, name: Span) -> [u64; 15]
+    ensures { λ r. ⌜ r ≡ capNumbers f sender name ⌝ }
+{
+    let message_type = f.message;
+    let status_code = f.status;
+    let scope_code = f.scope;
+    let parts = f.parts;
+    let message = codes::message_number(message_type) as u64;
+    let status = codes::status_number(status_code) as u64;
+    let scope = codes::scope_number(scope_code) as u64;
+    match parts {
+        Parts::Nothing => numbers_of_none(message, status, scope, sender, name),
+        Parts::One(p) => numbers_of_part(message, status, scope, sender, name, p),
+    }
+}
+
+// The numbers of a WARN sheet.
+fn warn_numbers(w: WarnFacts) -> [u64; 15]
+    ensures { λ r. ⌜ r ≡ warnNumbers w ⌝ }
+{
+    [
+        2,
+        w.urgent as u64,
+        w.update as u64,
+        w.cancel as u64,
+        w.test as u64,
+        w.event as u64,
+        w.number as u64,
+        w.origin as u64,
+        w.lasting as u64,
+        w.hazard as u64,
+        w.kind as u64,
+        w.urgency as u64,
+        w.severity as u64,
+        w.certainty as u64,
+        w.response as u64,
+    ]
+}
+
+// The numbers of a sheet that was found in a text.
+pub fn numbers_of(found: Found) -> [u64; 15]
+    ensures { λ r. ⌜ r ≡ numbersOf found ⌝ }
+{
+    match found {
+        Found::Cap(facts, sender, name) => cap_numbers(facts, sender, name),
+        Found::Warn(facts) => warn_numbers(facts),
+    }
+}

@@ -1,0 +1,103 @@
+// Writing a sheet that is handed in as numbers, and reading a text back.
+use crate::Answer;
+use crate::answers::read_answer;
+use crate::answers::refused;
+use crate::answers::write_answer;
+use crate::numbers;
+use sheet::ReadBack;
+use sheet::Span;
+use sheet::span_in;
+ghost use mathlib.Core.Path.{_≡_};
+ghost use Rattle.sheet.specs.Answers.{readBack};
+ghost use Rattle.warnbox.specs.Answers.{readAnswer};
+ghost use Rattle.warnbox.specs.Sentences.{liesIn, areCapIn, numbersSentence, numbersAfter, numbersRead};
+
+// Whether a part lies in a text.
+fn lies_in(text: &[u8], span: Span) -> bool
+    ensures { λ r. ⌜ r ≡ liesIn (now (text .entry)) span ⌝ }
+{
+    if text.len() < span.start {
+        return false;
+    }
+    span.len <= text.len() - span.start
+}
+
+// Whether numbers stand for a CAP sheet whose sender and name stand in a text.
+fn are_cap_in(text: &[u8], sheet: &[u64; 15]) -> bool
+    ensures { λ r. ⌜ r ≡ areCapIn (now (text .entry)) (now (sheet .entry)) ⌝ }
+{
+    let sender = numbers::sender_from(sheet);
+    let name = numbers::name_from(sheet);
+    numbers::are_cap(sheet) & lies_in(text, sender) & lies_in(text, name)
+}
+
+// Writes the sentence of a sheet that is handed in as numbers.
+fn write_numbers(buffer: &mut [u8], start: usize, text: &[u8], sheet: &[u64; 15]) -> Answer
+    ensures { λ r. ⌜ (r ≡ numbersSentence (now (buffer .entry)) start (now (text .entry)) (now (sheet .entry))) × (now (buffer .exit) ≡ numbersAfter (now (buffer .entry)) start (now (text .entry)) (now (sheet .entry))) ⌝ }
+{
+    if are_cap_in(text, sheet) {
+        let facts = numbers::cap_from(sheet);
+        let sender = span_in(text, numbers::sender_from(sheet));
+        let name = span_in(text, numbers::name_from(sheet));
+        return write_answer(readback::write_cap(buffer, start, facts, sender, name));
+    }
+    if numbers::are_warn(sheet) {
+        let facts = numbers::warn_from(sheet);
+        return write_answer(readback::write_warn(buffer, start, facts));
+    }
+    refused(23, 0)
+}
+
+// Writes the sentence of a sheet, whose sender and name stand in a text; the value is the sentence's end.
+#[no_mangle]
+pub extern "C" fn warnbox_write(
+    buffer: &mut [u8],
+    start: usize,
+    text: &[u8],
+    sheet: &[u64; 15],
+    value: &mut u64,
+) -> u8
+    ensures { λ r. ⌜ (r ≡ numbersSentence (now (buffer .entry)) start (now (text .entry)) (now (sheet .entry)) .number)
+        × (now (value .exit) ≡ numbersSentence (now (buffer .entry)) start (now (text .entry)) (now (sheet .entry)) .value)
+        × (now (buffer .exit) ≡ numbersAfter (now (buffer .entry)) start (now (text .entry)) (now (sheet .entry))) ⌝ }
+{
+    let answer = write_numbers(buffer, start, text, sheet);
+    *value = answer.value;
+    answer.number
+}
+
+// Counts the read-backs of a text; the value is their number.
+#[no_mangle]
+pub extern "C" fn warnbox_count(text: &[u8], value: &mut u64) -> u8
+    ensures { λ r. ⌜ (r ≡ readAnswer (readBack (now (text .entry)) 0) .number) × (now (value .exit) ≡ readAnswer (readBack (now (text .entry)) 0) .value) ⌝ }
+{
+    let answer = read_answer(reader::read_back(text, 0));
+    *value = answer.value;
+    answer.number
+}
+
+// Gives the sheet of a read-back of a text, counted from 1; the value is the number of read-backs.
+#[no_mangle]
+pub extern "C" fn warnbox_read_back(
+    text: &[u8],
+    k: usize,
+    sheet: &mut [u64; 15],
+    value: &mut u64,
+) -> u8
+    ensures { λ r. ⌜ (r ≡ readAnswer (readBack (now (text .entry)) k) .number)
+        × (now (value .exit) ≡ readAnswer (readBack (now (text .entry)) k) .value)
+        × (now (sheet .exit) ≡ numbersRead (now (sheet .entry)) (readBack (now (text .entry)) k)) ⌝ }
+{
+    let read = reader::read_back(text, k);
+    let answer = read_answer(read);
+    *value = answer.value;
+    match read {
+        ReadBack::Count(n) => {}
+        ReadBack::Sheet(n, found) => {
+            *sheet = numbers::numbers_of(found);
+        }
+        ReadBack::NotReadBack(place) => {}
+        ReadBack::NotThere => {}
+    }
+    answer.number
+}
