@@ -1,0 +1,96 @@
+"""Sequences of receipts and sweeps on one event table."""
+import packet_calls
+from choices import any_number, chance
+
+LATEST_CLOCK = 2 ** 64 - 65_536
+CLOCKS = (0, 1, 65_535, LATEST_CLOCK - 65_536, LATEST_CLOCK - 1, LATEST_CLOCK, LATEST_CLOCK + 1, 2 ** 64 - 2, 2 ** 64 - 1)
+TTLS = (0, 1, 60, 65_534, 65_535)
+
+
+def case(rng):
+    scene = Scene(rng)
+    table = scene.table()
+    for _ in range(rng.randint(10, 30)):
+        if chance(rng, 15):
+            _, table = yield "sweep", (table, scene.sweep_time(table))
+        else:
+            _, table = yield "receive", (table, scene.packet(table), scene.keys(), chance(rng, 95), scene.clock())
+
+
+class Scene:
+    """A few key ids, events and a time around which everything happens, so that they meet often."""
+
+    def __init__(self, rng):
+        self.rng = rng
+        self.known_keys = [any_number(rng, 32) for _ in range(rng.choice((1, 2, 3, 8)))]
+        self.events = [any_number(rng, 32) for _ in range(rng.choice((1, 2, 6, 100)))]
+        self.now = rng.choice(CLOCKS) if chance(rng, 15) else any_number(rng, 40)
+        self.steady_keys = self.key_list()
+
+    # ---- the table at the start
+
+    def table(self):
+        rng = self.rng
+        length = rng.choice((0, 1, 2, 3, 5, 8, 63, 64, 65, 80, rng.randint(0, 80)))
+        used = rng.choice((0, 10, 50, 90, 100))
+        return [self.entry(chance(rng, used)) for _ in range(length)]
+
+    def entry(self, used):
+        rng = self.rng
+        if chance(rng, 10):
+            return used, 0, 0, 0, False, 0
+        return used, rng.choice(self.known_keys), rng.choice(self.events), self.sequence(), chance(rng, 30), self.keep_until()
+
+    def sequence(self):
+        return self.rng.choice((0, 1, 9, 65_534, 65_535)) if chance(self.rng, 30) else self.rng.getrandbits(16)
+
+    def keep_until(self):
+        rng = self.rng
+        if chance(rng, 15):
+            return rng.choice((0, 1, 2 ** 64 - 1, 2 ** 63))
+        return max(0, min(2 ** 64 - 1, self.now + rng.randint(-70_000, 140_000)))
+
+    # ---- what is received
+
+    def packet(self, table):
+        rng = self.rng
+        if chance(rng, 4):
+            return packet_calls.pick(rng)
+        key, event, sequence = self.event_and_sequence(table)
+        return packet_calls.made(rng, event, sequence, rng.choice(TTLS) if chance(rng, 40) else rng.getrandbits(16), key)
+
+    def event_and_sequence(self, table):
+        """Of some entry, with a number around its own; or of any event."""
+        rng = self.rng
+        if table and chance(rng, 60):
+            _, key, event, stored, _, _ = rng.choice(table)
+            return key, event, (stored + rng.choice((-1, 0, 1, 1, 1, rng.randrange(100)))) % 65_536
+        key = any_number(rng, 32) if chance(rng, 5) else rng.choice(self.known_keys)
+        return key, rng.choice(self.events) if chance(rng, 70) else any_number(rng, 32), self.sequence()
+
+    def key_list(self):
+        rng = self.rng
+        listed = list(self.known_keys)
+        if chance(rng, 30):
+            listed = rng.sample(listed, rng.randint(0, len(listed)))
+        listed += [any_number(rng, 32) for _ in range(rng.choice((0, 0, 1, 4)))]
+        rng.shuffle(listed)
+        return listed
+
+    def keys(self):
+        return self.steady_keys if chance(self.rng, 90) else self.key_list()
+
+    def clock(self):
+        rng = self.rng
+        if chance(rng, 6):
+            return rng.choice(CLOCKS)
+        self.now = min(2 ** 64 - 1, self.now + rng.choice((0, 0, 1, rng.randrange(100), rng.randrange(40_000))))
+        if self.now > LATEST_CLOCK and chance(rng, 60):
+            self.now = rng.choice((LATEST_CLOCK, any_number(rng, 40)))
+        return self.now
+
+    def sweep_time(self, table):
+        rng = self.rng
+        if table and chance(rng, 60):
+            return max(0, min(2 ** 64 - 1, rng.choice(table)[5] + rng.choice((-1, 0, 0, 1))))
+        return rng.choice((0, 2 ** 64 - 1, any_number(rng, 64))) if chance(rng, 30) else self.now
