@@ -4,15 +4,6 @@ use borrow.Author.Needs.{needs}
 use Rattle.circle.proofs.circle_holds.Statement.{statement}
 use Rattle.circle.proofs.circle_holds.Tie as tie
 
-read-circle-requires : tie.Need-read-circle-requires
-read-circle-requires c κs = search needs
-
-enum-known-c : tie.Need-enum-known-c
-enum-known-c c = search needs
-
-around-holds-requires : tie.Need-around-holds-requires
-around-holds-requires c κs = search needs
-
 enum-told : tie.Need-enum-told
 enum-told c = search needs
 
@@ -23,6 +14,4 @@ returns-2 : tie.Need-returns-2
 returns-2 c = holds-fault _ (c .before .before .before .before .args .place) _ (c .before .before .read-circle .ensures) (c .enum-told .given .1)
 
 pub circle-holds-spec : {M : Type 1} → statement M
-circle-holds-spec =
-    tie.close
-    (tie.spec read-circle-requires enum-known-c around-holds-requires enum-told returns returns-2)
+circle-holds-spec = tie.close (tie.spec (λ c κs. search needs) (λ c. search needs) (λ c κs. search needs) enum-told returns returns-2)

@@ -6,18 +6,9 @@ use borrow.Author.Needs.{needs}
 use Rattle.circle.proofs.cosine.Statement.{statement}
 use Rattle.circle.proofs.cosine.Tie as tie
 
-returns : tie.Need-returns
-returns c = cosine-none _ (c .if1 .taken)
-
-mul-result : tie.Need-mul-result
-mul-result c = search needs
-
-array-read-result : tie.Need-array-read-result
-array-read-result c = search needs
-
 returns-2 : tie.Need-returns-2
 unfolding cosines
 returns-2 c = refl
 
 pub cosine-spec : {M : Type 1} → statement M
-cosine-spec = tie.close (tie.spec returns mul-result array-read-result returns-2)
+cosine-spec = tie.close (tie.spec (λ c. cosine-none _ (c .if1 .taken)) (λ c. search needs) (λ c. search needs) returns-2)

@@ -4,17 +4,8 @@ use borrow.Author.Needs.{needs}
 use Rattle.circle.proofs.cosine_at.Statement.{statement}
 use Rattle.circle.proofs.cosine_at.Tie as tie
 
-distance-requires : tie.Need-distance-requires
-distance-requires c κs = search needs
-
-cosine-requires : tie.Need-cosine-requires
-cosine-requires c κs = search needs
-
-cast-result : tie.Need-cast-result
-cast-result c = search needs
-
 returns : tie.Need-returns
 returns c = cosine-is _ _ _ (c .before .before .fits .lat) (c .before .distance .ensures) (c .cosine .ensures)
 
 pub cosine-at-spec : {M : Type 1} → statement M
-cosine-at-spec = tie.close (tie.spec distance-requires cosine-requires cast-result returns)
+cosine-at-spec = tie.close (tie.spec (λ c κs. search needs) (λ c κs. search needs) (λ c. search needs) returns)

@@ -4,11 +4,5 @@ use borrow.Author.Needs.{needs}
 use Rattle.circle.proofs.scaled.Statement.{statement}
 use Rattle.circle.proofs.scaled.Tie as tie
 
-mul-result : tie.Need-mul-result
-mul-result c = product-fits _ _ (c .pre .0) (c .pre .1)
-
-returns : tie.Need-returns
-returns c = search needs
-
 pub scaled-spec : {M : Type 1} → statement M
-scaled-spec = tie.close (tie.spec mul-result returns)
+scaled-spec = tie.close (tie.spec (λ c. product-fits _ _ (c .pre .0) (c .pre .1)) (λ c. search needs))

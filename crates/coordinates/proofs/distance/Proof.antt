@@ -4,9 +4,6 @@ use Rattle.coordinates.proofs.Differences.{result-fits, result-cast, re
 use Rattle.coordinates.proofs.distance.Statement.{statement}
 use Rattle.coordinates.proofs.distance.Tie as tie
 
-difference-requires : tie.Need-difference-requires
-difference-requires c κs = search needs
-
 sub-result : tie.Need-sub-result
 sub-result c =
     result-fits _ _ _ (c .before .before .fits .a) (c .before .before .fits .b) (c .before .difference .ensures) (c .if1 .taken)
@@ -28,5 +25,4 @@ returns-2 c =
     plain-result-is _ _ _ (c .before .before .fits .a) (c .before .before .fits .b) (c .before .difference .ensures) (c .if1 .left)
 
 pub distance-spec : {M : Type 1} → statement M
-distance-spec =
-    tie.close (tie.spec difference-requires sub-result cast-result returns cast-result-2 returns-2)
+distance-spec = tie.close (tie.spec (λ c κs. search needs) sub-result cast-result returns cast-result-2 returns-2)

@@ -7,12 +7,6 @@ use Rattle.coordinates.proofs.Differences.{within-is}
 use Rattle.coordinates.proofs.in_range.Statement.{statement}
 use Rattle.coordinates.proofs.in_range.Tie as tie
 
-is-latitude-requires : tie.Need-is-latitude-requires
-is-latitude-requires c κs = search needs
-
-is-longitude-requires : tie.Need-is-longitude-requires
-is-longitude-requires c κs = search needs
-
 returns : tie.Need-returns
 returns c =
     let p = c .before .before .before .before .args .p in
@@ -22,4 +16,4 @@ returns c =
     (within-is longitudeLimit (p .lon) _ (told .1 .0 .1) (c .is-longitude .ensures))
 
 pub in-range-spec : {M : Type 1} → statement M
-in-range-spec = tie.close (tie.spec is-latitude-requires is-longitude-requires returns)
+in-range-spec = tie.close (tie.spec (λ c κs. search needs) (λ c κs. search needs) returns)

@@ -9,20 +9,11 @@ use Rattle.coordinates.proofs.Readers.{no-leading-latitude, no-leading-
 use Rattle.coordinates.proofs.leading_pair.Statement.{statement}
 use Rattle.coordinates.proofs.leading_pair.Tie as tie
 
-coordinate-at-requires : tie.Need-coordinate-at-requires
-coordinate-at-requires c κs = search needs
-
-enum-known-y : tie.Need-enum-known-y
-enum-known-y c = search needs
-
 enum-told : tie.Need-enum-told
 enum-told c = search needs
 
 returns : tie.Need-returns
 returns c = no-leading-latitude _ _ (sym (c .before .before .coordinate-at .ensures) ∙ c .enum-told .given .1)
-
-leads-requires : tie.Need-leads-requires
-leads-requires c κs = search needs
 
 returns-2 : tie.Need-returns-2
 returns-2 c =
@@ -35,15 +26,6 @@ add-coordinate-at c =
       arith,
       leads-in (c .before .before .before .before .before .before .before .args .text .now) (c .before .before .before .y .given .0 .1 .0) (code ",") (sym (c .before .leads .ensures) ∙ not-false _ (c .if1 .left)),
     )
-
-coordinate-at-requires-2 : tie.Need-coordinate-at-requires-2
-coordinate-at-requires-2 c κs = search needs
-
-enum-known-x : tie.Need-enum-known-x
-enum-known-x c = search needs
-
-enum-told-2 : tie.Need-enum-told-2
-enum-told-2 c = search needs
 
 returns-3 : tie.Need-returns-3
 returns-3 c =
@@ -60,16 +42,5 @@ returns-4 c =
 pub leading-pair-spec : {M : Type 1} → statement M
 leading-pair-spec =
     tie.close
-    (tie.spec
-    coordinate-at-requires
-    enum-known-y
-    enum-told
-    returns
-    leads-requires
-    returns-2
-    add-coordinate-at
-    coordinate-at-requires-2
-    enum-known-x
-    enum-told-2
-    returns-3
-    returns-4)
+    (tie.spec (λ c κs. search needs) (λ c. search needs) enum-told returns (λ c κs. search needs) returns-2 add-coordinate-at (λ c κs. search needs)
+    (λ c. search needs) (λ c. search needs) returns-3 returns-4)

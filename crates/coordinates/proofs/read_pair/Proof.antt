@@ -9,20 +9,11 @@ use Rattle.coordinates.proofs.Readers.{no-latitude, no-comma, no-longit
 use Rattle.coordinates.proofs.read_pair.Statement.{statement}
 use Rattle.coordinates.proofs.read_pair.Tie as tie
 
-coordinate-at-requires : tie.Need-coordinate-at-requires
-coordinate-at-requires c κs = search needs
-
-enum-known-y : tie.Need-enum-known-y
-enum-known-y c = search needs
-
 enum-told : tie.Need-enum-told
 enum-told c = search needs
 
 returns : tie.Need-returns
 returns c = no-latitude _ (sym (c .before .before .coordinate-at .ensures) ∙ c .enum-told .given .1)
-
-leads-requires : tie.Need-leads-requires
-leads-requires c κs = search needs
 
 returns-2 : tie.Need-returns-2
 returns-2 c =
@@ -35,15 +26,6 @@ add-whole-text c =
       arith,
       leads-in (c .before .before .before .before .before .before .before .args .text .now) (c .before .before .before .y .given .0 .1 .0) (code ",") (sym (c .before .leads .ensures) ∙ not-false _ (c .if1 .left)),
     )
-
-whole-text-requires : tie.Need-whole-text-requires
-whole-text-requires c κs = search needs
-
-enum-known-x : tie.Need-enum-known-x
-enum-known-x c = search needs
-
-enum-told-2 : tie.Need-enum-told-2
-enum-told-2 c = search needs
 
 returns-3 : tie.Need-returns-3
 returns-3 c =
@@ -60,16 +42,5 @@ returns-4 c =
 pub read-pair-spec : {M : Type 1} → statement M
 read-pair-spec =
     tie.close
-    (tie.spec
-    coordinate-at-requires
-    enum-known-y
-    enum-told
-    returns
-    leads-requires
-    returns-2
-    add-whole-text
-    whole-text-requires
-    enum-known-x
-    enum-told-2
-    returns-3
-    returns-4)
+    (tie.spec (λ c κs. search needs) (λ c. search needs) enum-told returns (λ c κs. search needs) returns-2 add-whole-text (λ c κs. search needs)
+    (λ c. search needs) (λ c. search needs) returns-3 returns-4)

@@ -5,12 +5,6 @@ use Rattle.coordinates.proofs.Readers.{no-kilometres, more-bytes, too-f
 use Rattle.coordinates.proofs.read_radius.Statement.{statement}
 use Rattle.coordinates.proofs.read_radius.Tie as tie
 
-decimal-at-requires : tie.Need-decimal-at-requires
-decimal-at-requires c κs = search needs
-
-enum-known-d : tie.Need-enum-known-d
-enum-known-d c = search needs
-
 enum-told : tie.Need-enum-told
 enum-told c = search needs
 
@@ -25,22 +19,9 @@ returns-3 : tie.Need-returns-3
 returns-3 c =
     too-far _ _ _ (sym (c .before .before .before .before .before .decimal-at .ensures) ∙ c .before .before .before .d .given .1) (c .before .if1 .left) (c .if2 .taken)
 
-cast-t7 : tie.Need-cast-t7
-cast-t7 c = search needs
-
 returns-4 : tie.Need-returns-4
 returns-4 c =
     far _ _ _ (sym (c .before .before .before .before .before .decimal-at .ensures) ∙ c .before .before .before .d .given .1) (c .before .if1 .left) (c .if2 .left)
 
 pub read-radius-spec : {M : Type 1} → statement M
-read-radius-spec =
-    tie.close
-    (tie.spec
-    decimal-at-requires
-    enum-known-d
-    enum-told
-    returns
-    returns-2
-    returns-3
-    cast-t7
-    returns-4)
+read-radius-spec = tie.close (tie.spec (λ c κs. search needs) (λ c. search needs) enum-told returns returns-2 returns-3 (λ c. search needs) returns-4)

@@ -5,12 +5,6 @@ use Rattle.coordinates.proofs.Readers.{no-coordinate, bytes-behind, to-
 use Rattle.coordinates.proofs.whole_text.Statement.{statement}
 use Rattle.coordinates.proofs.whole_text.Tie as tie
 
-coordinate-at-requires : tie.Need-coordinate-at-requires
-coordinate-at-requires c κs = search needs
-
-enum-known-c : tie.Need-enum-known-c
-enum-known-c c = search needs
-
 enum-told : tie.Need-enum-told
 enum-told c = search needs
 
@@ -27,5 +21,4 @@ returns-3 c =
     (c .before .known-told .given .0 .1)
 
 pub whole-text-spec : {M : Type 1} → statement M
-whole-text-spec =
-    tie.close (tie.spec coordinate-at-requires enum-known-c enum-told returns returns-2 returns-3)
+whole-text-spec = tie.close (tie.spec (λ c κs. search needs) (λ c. search needs) enum-told returns returns-2 returns-3)

@@ -5,21 +5,6 @@ use Rattle.document.proofs.Steps.{check-long, check-within}
 use Rattle.document.proofs.check_document.Statement.{statement}
 use Rattle.document.proofs.check_document.Tie as tie
 
-returns : tie.Need-returns
-returns c = check-long (c .before .before .args .s .now) (c .if1 .taken)
-
-read-prolog-requires : tie.Need-read-prolog-requires
-read-prolog-requires c κs = search needs
-
-enum-known-prolog : tie.Need-enum-known-prolog
-enum-known-prolog c = search needs
-
-check-from-requires : tie.Need-check-from-requires
-check-from-requires c κs = search needs
-
-enum-known-prolog-2 : tie.Need-enum-known-prolog-2
-enum-known-prolog-2 c = search needs
-
 returns-2 : tie.Need-returns-2
 returns-2 c =
     check-within (c .before .before .before .before .before .before .before .args .s .now) _ _
@@ -34,11 +19,5 @@ returns-3 c =
 pub check-document-spec : {M : Type 1} → statement M
 check-document-spec =
     tie.close
-    (tie.spec
-    returns
-    read-prolog-requires
-    enum-known-prolog
-    check-from-requires
-    enum-known-prolog-2
-    returns-2
-    returns-3)
+    (tie.spec (λ c. check-long (c .before .before .args .s .now) (c .if1 .taken)) (λ c κs. search needs) (λ c. search needs) (λ c κs. search needs)
+    (λ c. search needs) returns-2 returns-3)

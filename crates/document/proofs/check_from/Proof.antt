@@ -15,17 +15,8 @@ Inv-loop s at m₀ m = Kept s at m
 abbrev μ-loop : tie.MeasureT-loop
 μ-loop s at m₀ m = length s - m .at
 
-begin-requires : tie.Need-begin-requires Inv-loop μ-loop
-begin-requires c κs = search needs
-
 loop-holds : tie.Need-loop-holds Inv-loop μ-loop
 loop-holds c = kept-begin (c .before .before .args .s .now) (c .before .before .args .at) _ (c .begin .ensures)
-
-take-step-requires : tie.Need-take-step-requires Inv-loop μ-loop
-take-step-requires c κs = search needs
-
-enum-known-step : tie.Need-enum-known-step Inv-loop μ-loop
-enum-known-step c = search needs
 
 loop-less : tie.Need-loop-less Inv-loop μ-loop
 loop-less c = let b = ahead _ _ _ _ (sym (c .before .before .before .take-step .ensures) ∙ c .before .step .given .1) in omega arith
@@ -41,9 +32,6 @@ enum-told c = search needs
 returns : tie.Need-returns Inv-loop μ-loop
 returns c = kept-done _ _ _ (c .before .before .before .loop .inv) (sym (c .before .before .take-step .ensures) ∙ c .enum-told .given .1)
 
-enum-known-step-2 : tie.Need-enum-known-step-2 Inv-loop μ-loop
-enum-known-step-2 c = search needs
-
 returns-2 : tie.Need-returns-2 Inv-loop μ-loop
 returns-2 c =
     kept-refused _ _ _ (c .before .before .before .before .loop .inv) _ _
@@ -52,16 +40,5 @@ returns-2 c =
 pub check-from-spec : {M : Type 1} → statement M
 check-from-spec =
     tie.close
-    (tie.spec
-    Inv-loop
-    μ-loop
-    begin-requires
-    loop-holds
-    take-step-requires
-    enum-known-step
-    loop-less
-    loop-again
-    enum-told
-    returns
-    enum-known-step-2
-    returns-2)
+    (tie.spec Inv-loop μ-loop (λ c κs. search needs) loop-holds (λ c κs. search needs) (λ c. search needs) loop-less loop-again enum-told returns
+    (λ c. search needs) returns-2)

@@ -10,18 +10,6 @@ use Rattle.events.proofs.accept.Tie as tie
 long : (s : tie.Start) → length (s .args .table .entries) ≡ 64
 long s = simp length-map at (s .good .0 .1 .1 .0 .1 .0 .1)
 
-scan-requires : tie.Need-scan-requires
-scan-requires c κs = search needs
-
-decide-requires : tie.Need-decide-requires
-decide-requires c κs = search needs
-
-mul-entry : tie.Need-mul-entry
-mul-entry c = search needs
-
-element-set-from-entry : tie.Need-element-set-from-entry
-element-set-from-entry c = search needs
-
 returns : tie.Need-returns
 returns c = let s = c .before .before .before .before .before in
     ap ofOutcome (stored-is (s .args .table .entries) (s .args .checked) _ (c .before .before .before .scan .ensures) 64 (long s) _ (c .before .before .decide .ensures))
@@ -31,6 +19,4 @@ returns-2 c = let s = c .before .before .before .before .before in
     ap ofOutcome (unstored-is (s .args .table .entries) (s .args .checked) _ (c .before .before .before .scan .ensures) 64 (long s) _ (c .before .before .decide .ensures) (c .if1 .left))
 
 pub accept-spec : {M : Type 1} → statement M
-accept-spec =
-    tie.close
-    (tie.spec scan-requires decide-requires mul-entry element-set-from-entry returns returns-2)
+accept-spec = tie.close (tie.spec (λ c κs. search needs) (λ c κs. search needs) (λ c. search needs) (λ c. search needs) returns returns-2)

@@ -9,15 +9,9 @@ use Rattle.events.proofs.find.Tie as tie
 long : (s : tie.Start) → length (s .args .table .entries) ≡ 64
 long s = simp length-map at (s .good .0 .1 .1 .0 .1 .0 .1)
 
-scan-requires : tie.Need-scan-requires
-scan-requires c κs = search needs
-
-position-requires : tie.Need-position-requires
-position-requires c κs = search needs
-
 returns : tie.Need-returns
 returns c = let s = c .before .before in
     c .position .ensures ∙ position-is (s .args .key) (s .args .event) (s .args .table .entries) _ (c .before .scan .ensures) 64 (long s)
 
 pub find-spec : {M : Type 1} → statement M
-find-spec = tie.close (tie.spec scan-requires position-requires returns)
+find-spec = tie.close (tie.spec (λ c κs. search needs) (λ c κs. search needs) returns)

@@ -18,29 +18,8 @@ abbrev μ-loop : tie.MeasureT-loop
 long : (s : tie.Start Inv-loop μ-loop) → length (s .args .t1 .entries) ≡ 64
 long s = simp length-map at (s .good .0 .1 .1 .0 .1 .0 .1)
 
-no-places-requires : tie.Need-no-places-requires Inv-loop μ-loop
-no-places-requires c κs = search needs
-
 loop-holds : tie.Need-loop-holds Inv-loop μ-loop
 loop-holds c = (search needs, c .«no-places» .ensures ∙ scanned-none (c .before .args .key) (c .before .args .event) (c .before .args .t1 .entries))
-
-mul-entry : tie.Need-mul-entry Inv-loop μ-loop
-mul-entry c = search needs
-
-element-copy-out-entry : tie.Need-element-copy-out-entry Inv-loop μ-loop
-element-copy-out-entry c = search needs
-
-add-scan-step : tie.Need-add-scan-step Inv-loop μ-loop
-add-scan-step c = search needs
-
-scan-step-requires : tie.Need-scan-step-requires Inv-loop μ-loop
-scan-step-requires c κs = search needs
-
-add-i : tie.Need-add-i Inv-loop μ-loop
-add-i c = search needs
-
-loop-less : tie.Need-loop-less Inv-loop μ-loop
-loop-less c = search needs
 
 loop-again : tie.Need-loop-again Inv-loop μ-loop
 loop-again c = let s = c .before .before .before .before .before in
@@ -56,16 +35,5 @@ returns c = let s = c .before .before .before in
 pub scan-spec : {M : Type 1} → statement M
 scan-spec =
     tie.close
-    (tie.spec
-    Inv-loop
-    μ-loop
-    no-places-requires
-    loop-holds
-    mul-entry
-    element-copy-out-entry
-    add-scan-step
-    scan-step-requires
-    add-i
-    loop-less
-    loop-again
-    returns)
+    (tie.spec Inv-loop μ-loop (λ c κs. search needs) loop-holds (λ c. search needs) (λ c. search needs) (λ c. search needs) (λ c κs. search needs)
+    (λ c. search needs) (λ c. search needs) loop-again returns)

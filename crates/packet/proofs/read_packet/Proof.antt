@@ -6,25 +6,13 @@ use Rattle.packet.proofs.Rules.{under-eight, not-warn, not-one, not-ale
 use Rattle.packet.proofs.read_packet.Statement.{statement}
 use Rattle.packet.proofs.read_packet.Tie as tie
 
-returns : tie.Need-returns
-returns c = under-eight _ (c .if1 .taken)
-
-is-warn-requires : tie.Need-is-warn-requires
-is-warn-requires c κs = search needs
-
 returns-2 : tie.Need-returns-2
 returns-2 c = not-warn _ (c .before .before .if1 .left) (sym (c .before .is-warn .ensures) ∙ not-true _ (c .if2 .taken))
-
-u8-at-requires : tie.Need-u8-at-requires
-u8-at-requires c κs = search needs
 
 returns-3 : tie.Need-returns-3
 returns-3 c =
     not-one _ (c .before .before .before .before .if1 .left) (sym (c .before .before .before .is-warn .ensures) ∙ not-false _ (c .before .before .if2 .left))
     (λ q. c .if3 .taken (c .before .u8-at .ensures ∙ q))
-
-flag-requires : tie.Need-flag-requires
-flag-requires c κs = search needs
 
 returns-4 : tie.Need-returns-4
 returns-4 c =
@@ -39,19 +27,8 @@ read-alert-requires c κs = (
   sym (c .before .flag .ensures) ∙ not-false _ (c .if4 .left),
 )
 
-returns-5 : tie.Need-returns-5
-returns-5 c = search needs
-
 pub read-packet-spec : {M : Type 1} → statement M
 read-packet-spec =
     tie.close
-    (tie.spec
-    returns
-    is-warn-requires
-    returns-2
-    u8-at-requires
-    returns-3
-    flag-requires
-    returns-4
-    read-alert-requires
-    returns-5)
+    (tie.spec (λ c. under-eight _ (c .if1 .taken)) (λ c κs. search needs) returns-2 (λ c κs. search needs) returns-3 (λ c κs. search needs) returns-4
+    read-alert-requires (λ c. search needs))

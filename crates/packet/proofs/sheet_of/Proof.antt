@@ -5,12 +5,6 @@ use Rattle.packet.proofs.Answers.{lasting-fits}
 use Rattle.packet.proofs.sheet_of.Statement.{statement}
 use Rattle.packet.proofs.sheet_of.Tie as tie
 
-lasting-requires : tie.Need-lasting-requires
-lasting-requires c κs = search needs
-
-cast-t3 : tie.Need-cast-t3
-cast-t3 c = lasting-fits _ _ (c .before .pre) (c .lasting .ensures)
-
 returns : tie.Need-returns
 unfolding sheetOfFields
 returns c = let f = c .before .args .f in
@@ -32,4 +26,4 @@ returns c = let f = c .before .args .f in
     }
 
 pub sheet-of-spec : {M : Type 1} → statement M
-sheet-of-spec = tie.close (tie.spec lasting-requires cast-t3 returns)
+sheet-of-spec = tie.close (tie.spec (λ c κs. search needs) (λ c. lasting-fits _ _ (c .before .pre) (c .lasting .ensures)) returns)

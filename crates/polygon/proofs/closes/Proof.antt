@@ -6,11 +6,8 @@ use lib.Dec.{leb}
 use Rattle.polygon.proofs.closes.Statement.{statement}
 use Rattle.polygon.proofs.closes.Tie as tie
 
-same-place-requires : tie.Need-same-place-requires
-same-place-requires c κs = search needs
-
 returns : tie.Need-returns
 returns c = ap (_&&_ (leb 4 (c .before .args .count))) (c .same-place .ensures)
 
 pub closes-spec : {M : Type 1} → statement M
-closes-spec = tie.close (tie.spec same-place-requires returns)
+closes-spec = tie.close (tie.spec (λ c κs. search needs) returns)

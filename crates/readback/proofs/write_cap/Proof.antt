@@ -23,14 +23,8 @@ room :
     a .args .start + length (capText plain (a .args .facts) (a .args .sender .now) (a .args .name .now)) ≤ length (a .args .buffer .now)
 room e = has-room _ _ _ (e .before .before .if2 .left) (sym (e .before .cap-has-room .ensures) ∙ not-false _ (e .if3 .left))
 
-is-cap-requires : tie.Need-is-cap-requires
-is-cap-requires c κs = tt
-
 returns : tie.Need-returns
 returns c = answer-range _ _ _ (sym (c .before .is-cap .ensures) ∙ not-true _ (c .if1 .taken))
-
-returns-2 : tie.Need-returns-2
-returns-2 c = answer-no-room _ _ _ (in-range (c .before)) (omega arith)
 
 cap-has-room-requires : tie.Need-cap-has-room-requires
 unfolding sentence sentenceIn
@@ -40,23 +34,11 @@ returns-3 : tie.Need-returns-3
 unfolding sentence sentenceIn
 returns-3 c = answer-no-room _ _ (cap _ _ _) (in-range (c .before .before .before)) (lacks-room _ _ _ (c .before .before .if2 .left) (sym (c .before .cap-has-room .ensures) ∙ not-true _ (c .if3 .taken)))
 
-sub-put-cap : tie.Need-sub-put-cap
-sub-put-cap c = c .before .before .if2 .left
-
-part-put-cap-start : tie.Need-part-put-cap-start
-part-put-cap-start c = c .before .before .if2 .left
-
-part-put-cap-end : tie.Need-part-put-cap-end
-part-put-cap-end c = le-refl _
-
 put-cap-requires : tie.Need-put-cap-requires
 put-cap-requires c κs = mid-room _ (c .before .before .before .before .before .before .before .before .before .args .buffer .now) (room (c .before))
 
 add-t10 : tie.Need-add-t10
 add-t10 c = record { fits = lt-of-le-of-lt (rw (c .before .before .put-cap .ensures .size) (room (c .before .before .before .before))) (c .before .before .before .before .before .before .before .before .before .before .before .before .good .0 .0) }
-
-same-length : tie.Need-same-length
-same-length c = search needs
 
 returns-4 : tie.Need-returns-4
 unfolding sentence sentenceIn
@@ -65,16 +47,5 @@ returns-4 c = answer-end _ _ (cap _ _ _) (in-range (c .before .before .before .b
 pub write-cap-spec : {M : Type 1} → statement M
 write-cap-spec =
     tie.close
-    (tie.spec
-    is-cap-requires
-    returns
-    returns-2
-    cap-has-room-requires
-    returns-3
-    sub-put-cap
-    part-put-cap-start
-    part-put-cap-end
-    put-cap-requires
-    add-t10
-    same-length
-    returns-4)
+    (tie.spec (λ c κs. tt) returns (λ c. answer-no-room _ _ _ (in-range (c .before)) (omega arith)) cap-has-room-requires returns-3
+    (λ c. c .before .before .if2 .left) (λ c. c .before .before .if2 .left) (λ c. le-refl _) put-cap-requires add-t10 (λ c. search needs) returns-4)

@@ -23,14 +23,8 @@ room :
     a .args .start + length (warnText plain (a .args .facts)) ≤ length (a .args .buffer .now)
 room e = has-room _ _ _ (e .before .before .if2 .left) (sym (e .before .warn-has-room .ensures) ∙ not-false _ (e .if3 .left))
 
-is-warn-requires : tie.Need-is-warn-requires
-is-warn-requires c κs = tt
-
 returns : tie.Need-returns
 returns c = answer-range _ _ _ (sym (c .before .is-warn .ensures) ∙ not-true _ (c .if1 .taken))
-
-returns-2 : tie.Need-returns-2
-returns-2 c = answer-no-room _ _ _ (in-range (c .before)) (omega arith)
 
 warn-has-room-requires : tie.Need-warn-has-room-requires
 unfolding sentence sentenceIn
@@ -40,23 +34,11 @@ returns-3 : tie.Need-returns-3
 unfolding sentence sentenceIn
 returns-3 c = answer-no-room _ _ (warn _) (in-range (c .before .before .before)) (lacks-room _ _ _ (c .before .before .if2 .left) (sym (c .before .warn-has-room .ensures) ∙ not-true _ (c .if3 .taken)))
 
-sub-put-warn : tie.Need-sub-put-warn
-sub-put-warn c = c .before .before .if2 .left
-
-part-put-warn-start : tie.Need-part-put-warn-start
-part-put-warn-start c = c .before .before .if2 .left
-
-part-put-warn-end : tie.Need-part-put-warn-end
-part-put-warn-end c = le-refl _
-
 put-warn-requires : tie.Need-put-warn-requires
 put-warn-requires c κs = mid-room _ (c .before .before .before .before .before .before .before .args .buffer .now) (room (c .before))
 
 add-t8 : tie.Need-add-t8
 add-t8 c = record { fits = lt-of-le-of-lt (rw (c .before .before .put-warn .ensures .size) (room (c .before .before .before .before))) (c .before .before .before .before .before .before .before .before .before .before .good .0 .0) }
-
-same-length : tie.Need-same-length
-same-length c = search needs
 
 returns-4 : tie.Need-returns-4
 unfolding sentence sentenceIn
@@ -65,16 +47,5 @@ returns-4 c = answer-end _ _ (warn _) (in-range (c .before .before .before .befo
 pub write-warn-spec : {M : Type 1} → statement M
 write-warn-spec =
     tie.close
-    (tie.spec
-    is-warn-requires
-    returns
-    returns-2
-    warn-has-room-requires
-    returns-3
-    sub-put-warn
-    part-put-warn-start
-    part-put-warn-end
-    put-warn-requires
-    add-t8
-    same-length
-    returns-4)
+    (tie.spec (λ c κs. tt) returns (λ c. answer-no-room _ _ _ (in-range (c .before)) (omega arith)) warn-has-room-requires returns-3
+    (λ c. c .before .before .if2 .left) (λ c. c .before .before .if2 .left) (λ c. le-refl _) put-warn-requires add-t8 (λ c. search needs) returns-4)

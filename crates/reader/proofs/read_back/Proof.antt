@@ -20,15 +20,6 @@ abbrev μ-loop : tie.MeasureT-loop
 loop-holds : tie.Need-loop-holds Inv-loop μ-loop
 loop-holds c = (omega arith, omega arith, omega arith, loop-start (c .before .args .text .now) (c .before .args .k) _)
 
-line-at-requires : tie.Need-line-at-requires Inv-loop μ-loop
-line-at-requires c κs = c .before .loop .inv .1
-
-enum-known-size : tie.Need-enum-known-size Inv-loop μ-loop
-enum-known-size c = search needs
-
-add-n : tie.Need-add-n Inv-loop μ-loop
-add-n c = omega arith
-
 -- a read-back was met: it has a byte, and lies within the text
 room :
     (c : tie.After-known-told Inv-loop μ-loop)
@@ -37,12 +28,6 @@ room :
 room c =
     let l = c .before .before .before .before .before in
     turn-room (l .before .before .args .text .now) (l .loop .i) _ (c .before .before .before .line-at .ensures) _ _ (c .before .size .given .1) (l .loop .inv .1)
-
-add-i : tie.Need-add-i Inv-loop μ-loop
-add-i c = let r = room (c .before) in omega arith
-
-loop-less : tie.Need-loop-less Inv-loop μ-loop
-loop-less c = let r = room (c .before) in omega arith
 
 loop-again : tie.Need-loop-again Inv-loop μ-loop
 loop-again c =
@@ -55,12 +40,6 @@ loop-again c =
       turn-asked (a .text .now) (l .loop .i) _ (c .before .before .before .before .line-at .ensures) _ _ (c .before .before .size .given .1) (a .k) (l .loop .n) (l .loop .asked) (c .if1 .taken)
           ∙ l .loop .inv .3,
     )
-
-add-i-2 : tie.Need-add-i-2 Inv-loop μ-loop
-add-i-2 c = let r = room (c .before) in omega arith
-
-loop-less-2 : tie.Need-loop-less-2 Inv-loop μ-loop
-loop-less-2 c = let r = room (c .before) in omega arith
 
 loop-again-2 : tie.Need-loop-again-2 Inv-loop μ-loop
 loop-again-2 c =
@@ -86,31 +65,13 @@ returns-2 c = sym (loop-count (c .before .before .before .before .args .text .no
 returns-3 : tie.Need-returns-3 Inv-loop μ-loop
 returns-3 c = sym (loop-none (c .before .before .before .before .before .args .text .now) (c .before .before .before .before .before .args .k) (c .before .before .before .loop .i) _ _ (c .before .before .loop-test .left) (c .if3 .taken)) ∙ c .before .before .before .loop .inv .3
 
-found-at-requires : tie.Need-found-at-requires Inv-loop μ-loop
-found-at-requires c κs = c .before .before .before .loop .inv .2
-
 returns-4 : tie.Need-returns-4 Inv-loop μ-loop
 returns-4 c = ap (readback.Sheet (c .before .before .before .before .loop .n)) (c .found-at .ensures) ∙ sym (loop-sheet (c .before .before .before .before .before .before .args .text .now) (c .before .before .before .before .before .before .args .k) (c .before .before .before .before .loop .i) _ _ (c .before .before .before .loop-test .left) (omega arith) (c .before .if3 .left)) ∙ c .before .before .before .before .loop .inv .3
 
 pub read-back-spec : {M : Type 1} → statement M
 read-back-spec =
     tie.close
-    (tie.spec
-    Inv-loop
-    μ-loop
-    loop-holds
-    line-at-requires
-    enum-known-size
-    add-n
-    add-i
-    loop-less
-    loop-again
-    add-i-2
-    loop-less-2
-    loop-again-2
-    enum-told
-    returns
-    returns-2
-    returns-3
-    found-at-requires
-    returns-4)
+    (tie.spec Inv-loop μ-loop loop-holds (λ c κs. c .before .loop .inv .1) (λ c. search needs) (λ c. omega arith)
+    (λ c. let r = room (c .before) in omega arith) (λ c. let r = room (c .before) in omega arith) loop-again
+    (λ c. let r = room (c .before) in omega arith) (λ c. let r = room (c .before) in omega arith) loop-again-2 enum-told returns returns-2 returns-3
+    (λ c κs. c .before .before .before .loop .inv .2) returns-4)

@@ -7,27 +7,6 @@ use Rattle.report.proofs.Reports.{check-limit, report-refused, report-n
 use Rattle.report.proofs.write_report.Statement.{statement}
 use Rattle.report.proofs.write_report.Tie as tie
 
-returns : tie.Need-returns
-returns c = no-room _ _ (c .if1 .taken)
-
-check-document-requires : tie.Need-check-document-requires
-check-document-requires c κs = search needs
-
-enum-known-checked : tie.Need-enum-known-checked
-enum-known-checked c = search needs
-
-write-refusal-requires : tie.Need-write-refusal-requires
-write-refusal-requires c κs = search needs
-
-enum-known-checked-2 : tie.Need-enum-known-checked-2
-enum-known-checked-2 c = search needs
-
-write-parts-requires : tie.Need-write-parts-requires
-write-parts-requires c κs = search needs
-
-same-length : tie.Need-same-length
-same-length c = search needs
-
 returns-2 : tie.Need-returns-2
 returns-2 c =
     let q = sym (c .before .before .before .before .before .before .before .before .check-document .ensures) ∙ c .before .before .before .before .before .before .checked2 .given .1 in
@@ -38,17 +17,11 @@ write-parts-requires-2 c κs =
     let q = sym (c .before .before .before .before .before .check-document .ensures) ∙ c .before .before .before .checked2 .given .1 in
     (omega arith, check-limit _ _ q, c .before .before .before .before .before .before .if1 .left)
 
-same-length-2 : tie.Need-same-length-2
-same-length-2 c = search needs
-
 returns-3 : tie.Need-returns-3
 returns-3 c =
     let q = sym (c .before .before .before .before .before .before .before .check-document .ensures) ∙ c .before .before .before .before .before .checked .given .1 in
     let w = c .before .before .write-refusal .ensures in
     has-room _ _ _ _ _ (c .before .before .before .before .before .before .before .before .if1 .left) (report-refused _ _ _ q) (w .0 ∙ zero-add _, w .1)
-
-same-length-3 : tie.Need-same-length-3
-same-length-3 c = search needs
 
 returns-4 : tie.Need-returns-4
 returns-4 c =
@@ -58,17 +31,5 @@ returns-4 c =
 pub write-report-spec : {M : Type 1} → statement M
 write-report-spec =
     tie.close
-    (tie.spec
-    returns
-    check-document-requires
-    enum-known-checked
-    write-refusal-requires
-    enum-known-checked-2
-    write-parts-requires
-    same-length
-    returns-2
-    write-parts-requires-2
-    same-length-2
-    returns-3
-    same-length-3
-    returns-4)
+    (tie.spec (λ c. no-room _ _ (c .if1 .taken)) (λ c κs. search needs) (λ c. search needs) (λ c κs. search needs) (λ c. search needs)
+    (λ c κs. search needs) (λ c. search needs) returns-2 write-parts-requires-2 (λ c. search needs) returns-3 (λ c. search needs) returns-4)

@@ -16,25 +16,10 @@ Inv-loop t i₀ i = allNameBytes (drop i t) ≡ allNameBytes t
 abbrev μ-loop : tie.MeasureT-loop
 μ-loop t i₀ i = length t - i
 
-loop-holds : tie.Need-loop-holds Inv-loop μ-loop
-loop-holds c = refl
-
-shared-slice-read-is-name-byte : tie.Need-shared-slice-read-is-name-byte Inv-loop μ-loop
-shared-slice-read-is-name-byte c = search needs
-
-is-name-byte-requires : tie.Need-is-name-byte-requires Inv-loop μ-loop
-is-name-byte-requires c κs = search needs
-
 returns : tie.Need-returns Inv-loop μ-loop
 returns c =
     let a = c .before .before .before in
     sym (not-name-byte _ _ (a .loop-test .taken) (sym (c .before .is-name-byte .ensures) ∙ not-true _ (c .if1 .taken))) ∙ a .before .loop .inv
-
-add-i : tie.Need-add-i Inv-loop μ-loop
-add-i c = omega arith
-
-loop-less : tie.Need-loop-less Inv-loop μ-loop
-loop-less c = omega arith
 
 loop-again : tie.Need-loop-again Inv-loop μ-loop
 loop-again c =
@@ -47,14 +32,5 @@ returns-2 c = sym (name-end _ _ (c .loop-test .left)) ∙ c .before .loop .inv
 pub all-name-bytes-spec : {M : Type 1} → statement M
 all-name-bytes-spec =
     tie.close
-    (tie.spec
-    Inv-loop
-    μ-loop
-    loop-holds
-    shared-slice-read-is-name-byte
-    is-name-byte-requires
-    returns
-    add-i
-    loop-less
-    loop-again
+    (tie.spec Inv-loop μ-loop (λ c. refl) (λ c. search needs) (λ c κs. search needs) returns (λ c. omega arith) (λ c. omega arith) loop-again
     returns-2)

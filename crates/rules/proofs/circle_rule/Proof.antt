@@ -5,12 +5,6 @@ use Rattle.rules.specs.Texts.{circleNumber, circleRule}
 use Rattle.rules.proofs.circle_rule.Statement.{statement}
 use Rattle.rules.proofs.circle_rule.Tie as tie
 
-read-circle-requires : tie.Need-read-circle-requires
-read-circle-requires c κs = search needs
-
-enum-known-read : tie.Need-enum-known-read
-enum-known-read c = search needs
-
 enum-told : tie.Need-enum-told
 enum-told c = search needs
 
@@ -23,5 +17,4 @@ unfolding circleRule
 returns-2 c = ap circleNumber (sym (c .enum-told .given .1) ∙ c .before .before .read-circle .ensures)
 
 pub circle-rule-spec : {M : Type 1} → statement M
-circle-rule-spec =
-    tie.close (tie.spec read-circle-requires enum-known-read enum-told returns returns-2)
+circle-rule-spec = tie.close (tie.spec (λ c κs. search needs) (λ c. search needs) enum-told returns returns-2)

@@ -5,9 +5,6 @@ use Rattle.rules.specs.Texts.{codeRule}
 use Rattle.rules.proofs.code_rule.Statement.{statement}
 use Rattle.rules.proofs.code_rule.Tie as tie
 
-code-of-requires : tie.Need-code-of-requires
-code-of-requires c κs = search needs
-
 returns : tie.Need-returns
 unfolding codeRule
 returns c = rw (← c .before .code-of .ensures, c .if1 .taken)
@@ -17,4 +14,4 @@ unfolding codeRule
 returns-2 c = rw (← c .before .code-of .ensures, ne-eqb (c .before .code-of .result) 0 (c .if1 .left))
 
 pub code-rule-spec : {M : Type 1} → statement M
-code-rule-spec = tie.close (tie.spec code-of-requires returns returns-2)
+code-rule-spec = tie.close (tie.spec (λ c κs. search needs) returns returns-2)

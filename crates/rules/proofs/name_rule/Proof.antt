@@ -6,15 +6,6 @@ use Rattle.rules.proofs.Cases.{name-long, name-empty, name-judged}
 use Rattle.rules.proofs.name_rule.Statement.{statement}
 use Rattle.rules.proofs.name_rule.Tie as tie
 
-returns : tie.Need-returns
-returns c = name-long _ (c .if1 .taken)
-
-returns-2 : tie.Need-returns-2
-returns-2 c = name-empty _ (c .before .if1 .left) (c .if2 .taken)
-
-all-name-bytes-requires : tie.Need-all-name-bytes-requires
-all-name-bytes-requires c κs = search needs
-
 returns-3 : tie.Need-returns-3
 returns-3 c =
     let a = c .before .before in
@@ -26,4 +17,7 @@ returns-4 c =
     name-judged _ false (a .before .if1 .left) (a .if2 .left) (sym (c .if3 .left) ∙ c .before .all-name-bytes .ensures)
 
 pub name-rule-spec : {M : Type 1} → statement M
-name-rule-spec = tie.close (tie.spec returns returns-2 all-name-bytes-requires returns-3 returns-4)
+name-rule-spec =
+    tie.close
+    (tie.spec (λ c. name-long _ (c .if1 .taken)) (λ c. name-empty _ (c .before .if1 .left) (c .if2 .taken)) (λ c κs. search needs) returns-3
+    returns-4)

@@ -4,9 +4,6 @@ use Rattle.rules.specs.Texts.{polygonRule}
 use Rattle.rules.proofs.polygon_rule.Statement.{statement}
 use Rattle.rules.proofs.polygon_rule.Tie as tie
 
-is-polygon-requires : tie.Need-is-polygon-requires
-is-polygon-requires c κs = search needs
-
 returns : tie.Need-returns
 unfolding polygonRule
 returns c = rw (← c .before .is-polygon .ensures, c .if1 .taken)
@@ -16,4 +13,4 @@ unfolding polygonRule
 returns-2 c = rw (← c .before .is-polygon .ensures, c .if1 .left)
 
 pub polygon-rule-spec : {M : Type 1} → statement M
-polygon-rule-spec = tie.close (tie.spec is-polygon-requires returns returns-2)
+polygon-rule-spec = tie.close (tie.spec (λ c κs. search needs) returns returns-2)

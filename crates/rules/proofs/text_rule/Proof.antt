@@ -5,28 +5,13 @@ use Rattle.rules.proofs.Cases.{rule-name, rule-code, rule-time, rule-po
 use Rattle.rules.proofs.text_rule.Statement.{statement}
 use Rattle.rules.proofs.text_rule.Tie as tie
 
-name-rule-requires : tie.Need-name-rule-requires
-name-rule-requires c κs = search needs
-
 returns : tie.Need-returns
 returns c = c .name-rule .ensures ∙ sym (rule-name (c .before .before .before .args .class) _ (c .before .if1 .taken))
-
-has-codes-requires : tie.Need-has-codes-requires
-has-codes-requires c κs = search needs
-
-code-rule-requires : tie.Need-code-rule-requires
-code-rule-requires c κs = search needs
 
 returns-2 : tie.Need-returns-2
 returns-2 c =
     let k = c .before .before in
     c .code-rule .ensures ∙ sym (rule-code (k .before .before .before .args .class) _ (k .before .if1 .left) (sym (k .has-codes .ensures) ∙ c .before .if2 .taken))
-
-is-time-requires : tie.Need-is-time-requires
-is-time-requires c κs = search needs
-
-time-rule-requires : tie.Need-time-rule-requires
-time-rule-requires c κs = search needs
 
 returns-3 : tie.Need-returns-3
 returns-3 c =
@@ -38,9 +23,6 @@ returns-3 c =
     (sym (k .has-codes .ensures) ∙ t .before .if2 .left)
     (sym (t .is-time .ensures) ∙ c .before .if3 .taken))
 
-polygon-rule-requires : tie.Need-polygon-rule-requires
-polygon-rule-requires c κs = search needs
-
 returns-4 : tie.Need-returns-4
 returns-4 c =
     let t = c .before .before .before in
@@ -51,9 +33,6 @@ returns-4 c =
     (sym (k .has-codes .ensures) ∙ t .before .if2 .left)
     (sym (t .is-time .ensures) ∙ c .before .before .if3 .left)
     (c .before .if4 .taken))
-
-circle-rule-requires : tie.Need-circle-rule-requires
-circle-rule-requires c κs = search needs
 
 returns-5 : tie.Need-returns-5
 returns-5 c =
@@ -81,17 +60,5 @@ returns-6 c =
 pub text-rule-spec : {M : Type 1} → statement M
 text-rule-spec =
     tie.close
-    (tie.spec
-    name-rule-requires
-    returns
-    has-codes-requires
-    code-rule-requires
-    returns-2
-    is-time-requires
-    time-rule-requires
-    returns-3
-    polygon-rule-requires
-    returns-4
-    circle-rule-requires
-    returns-5
-    returns-6)
+    (tie.spec (λ c κs. search needs) returns (λ c κs. search needs) (λ c κs. search needs) returns-2 (λ c κs. search needs) (λ c κs. search needs)
+    returns-3 (λ c κs. search needs) returns-4 (λ c κs. search needs) returns-5 returns-6)

@@ -5,12 +5,6 @@ use Rattle.rules.specs.Texts.{timeNumber, timeRule}
 use Rattle.rules.proofs.time_rule.Statement.{statement}
 use Rattle.rules.proofs.time_rule.Tie as tie
 
-read-time-requires : tie.Need-read-time-requires
-read-time-requires c κs = search needs
-
-enum-known-read : tie.Need-enum-known-read
-enum-known-read c = search needs
-
 enum-told : tie.Need-enum-told
 enum-told c = search needs
 
@@ -23,5 +17,4 @@ unfolding timeRule
 returns-2 c = ap timeNumber (sym (c .enum-told .given .1) ∙ c .before .before .read-time .ensures)
 
 pub time-rule-spec : {M : Type 1} → statement M
-time-rule-spec =
-    tie.close (tie.spec read-time-requires enum-known-read enum-told returns returns-2)
+time-rule-spec = tie.close (tie.spec (λ c κs. search needs) (λ c. search needs) enum-told returns returns-2)

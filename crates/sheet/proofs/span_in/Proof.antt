@@ -5,14 +5,8 @@ use borrow.Author.Needs.{needs}
 use Rattle.sheet.proofs.span_in.Statement.{statement}
 use Rattle.sheet.proofs.span_in.Tie as tie
 
-skip-requires : tie.Need-skip-requires
-skip-requires c κs = search needs
-
-first-requires : tie.Need-first-requires
-first-requires c κs = search needs
-
 returns : tie.Need-returns
 returns c = c .first .ensures ∙ ap (take (c .before .before .before .args .span .len)) (c .before .skip .ensures)
 
 pub span-in-spec : {M : Type 1} → statement M
-span-in-spec = tie.close (tie.spec skip-requires first-requires returns)
+span-in-spec = tie.close (tie.spec (λ c κs. search needs) (λ c κs. search needs) returns)

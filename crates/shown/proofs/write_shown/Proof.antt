@@ -14,18 +14,6 @@ use Rattle.shown.proofs.write_shown.Statement.{statement}
 told : {A : Type 0} (tell : Sheet → A) (f : CapFacts) {r : A} {s t n m : List ℕ} → r ≡ tell (cap f s n) → s ≡ t → n ≡ m → r ≡ tell (cap f t m)
 told tell f e p q = e ∙ (λ i. tell (cap f (p i) (q i)))
 
-sender-in-requires : tie.Need-sender-in-requires
-sender-in-requires c κs = search needs
-
-name-in-requires : tie.Need-name-in-requires
-name-in-requires c κs = search needs
-
-write-cap-requires : tie.Need-write-cap-requires
-write-cap-requires c κs = search needs
-
-same-length : tie.Need-same-length
-same-length c = search needs
-
 returns : tie.Need-returns
 returns c =
     let a = c .before .before .before .before .before .before .before .before .args in
@@ -36,4 +24,4 @@ returns c =
     )
 
 pub write-shown-spec : {M : Type 1} → statement M
-write-shown-spec = tie.close (tie.spec sender-in-requires name-in-requires write-cap-requires same-length returns)
+write-shown-spec = tie.close (tie.spec (λ c κs. search needs) (λ c κs. search needs) (λ c κs. search needs) (λ c. search needs) returns)

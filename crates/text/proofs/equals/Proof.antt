@@ -8,11 +8,8 @@ use Rattle.text.proofs.equals.Statement.{statement}
 returns : tie.Need-returns
 returns c = lengths-differ (c .before .before .before .args .a .now) (c .before .before .before .args .b .now) (c .if1 .taken)
 
-starts-with-requires : tie.Need-starts-with-requires
-starts-with-requires c κs = search needs
-
 returns-2 : tie.Need-returns-2
 returns-2 c = c .starts-with .ensures ∙ starts-equal _ _ (c .before .if1 .left)
 
 pub equals-spec : {M : Type 1} → statement M
-equals-spec = tie.close (tie.spec returns starts-with-requires returns-2)
+equals-spec = tie.close (tie.spec returns (λ c κs. search needs) returns-2)

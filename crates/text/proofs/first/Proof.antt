@@ -6,14 +6,5 @@ use borrow.Author.Needs.{needs}
 use Rattle.text.proofs.first.Tie as tie
 use Rattle.text.proofs.first.Statement.{statement}
 
-returns : tie.Need-returns
-returns c = sym (take-all _ _ (c .if1 .taken))
-
-slice-aggregate-result : tie.Need-slice-aggregate-result
-slice-aggregate-result c = sym (length-take-le _ _ (omega arith))
-
-returns-2 : tie.Need-returns-2
-returns-2 c = search needs
-
 pub first-spec : {M : Type 1} → statement M
-first-spec = tie.close (tie.spec returns slice-aggregate-result returns-2)
+first-spec = tie.close (tie.spec (λ c. sym (take-all _ _ (c .if1 .taken))) (λ c. sym (length-take-le _ _ (omega arith))) (λ c. search needs))

@@ -7,23 +7,11 @@ use Rattle.text.proofs.Parts.{part-none}
 use Rattle.text.proofs.part.Tie as tie
 use Rattle.text.proofs.part.Statement.{statement}
 
-slice-aggregate-result : tie.Need-slice-aggregate-result
-slice-aggregate-result c = search needs
-
-returns : tie.Need-returns
-returns c = part-none _ _ _ (c .before .if1 .taken)
-
-skip-requires : tie.Need-skip-requires
-skip-requires c κs = search needs
-
-sub-first : tie.Need-sub-first
-sub-first c = search needs
-
-first-requires : tie.Need-first-requires
-first-requires c κs = search needs
-
 returns-2 : tie.Need-returns-2
 returns-2 c = c .first .ensures ∙ ap (take (c .before .before .before .before .args .until - c .before .before .before .before .args .from)) (c .before .skip .ensures)
 
 pub part-spec : {M : Type 1} → statement M
-part-spec = tie.close (tie.spec slice-aggregate-result returns skip-requires sub-first first-requires returns-2)
+part-spec =
+    tie.close
+    (tie.spec (λ c. search needs) (λ c. part-none _ _ _ (c .before .if1 .taken)) (λ c κs. search needs) (λ c. search needs) (λ c κs. search needs)
+    returns-2)

@@ -5,14 +5,8 @@ use Rattle.text.specs.Parts.{startsWith}
 use Rattle.text.proofs.starts_at.Tie as tie
 use Rattle.text.proofs.starts_at.Statement.{statement}
 
-skip-requires : tie.Need-skip-requires
-skip-requires c κs = search needs
-
-starts-with-requires : tie.Need-starts-with-requires
-starts-with-requires c κs = search needs
-
 returns : tie.Need-returns
 returns c = c .starts-with .ensures ∙ ap (startsWith (c .before .before .before .before .args .p .now)) (c .before .skip .ensures)
 
 pub starts-at-spec : {M : Type 1} → statement M
-starts-at-spec = tie.close (tie.spec skip-requires starts-with-requires returns)
+starts-at-spec = tie.close (tie.spec (λ c κs. search needs) (λ c κs. search needs) returns)

@@ -7,20 +7,8 @@ use Rattle.integers.specs.Reads.{reads-back}
 use Rattle.time.proofs.stamp_time.Statement.{statement}
 use Rattle.time.proofs.stamp_time.Tie as tie
 
-has-time-form-requires : tie.Need-has-time-form-requires
-has-time-form-requires c κs = search needs
-
 returns : tie.Need-returns
 returns c = stamp-formless _ (sym (c .before .has-time-form .ensures) ∙ not-true _ (c .if1 .taken))
-
-stamp-of-requires : tie.Need-stamp-of-requires
-stamp-of-requires c κs = search needs
-
-is-stamp-requires : tie.Need-is-stamp-requires
-is-stamp-requires c κs = search needs
-
-instant-of-requires : tie.Need-instant-of-requires
-instant-of-requires c κs = sym (c .before .is-stamp .ensures) ∙ c .if2 .taken
 
 returns-2 : tie.Need-returns-2
 returns-2 c = stamp-yes _ _ _ (sym (c .before .before .before .before .before .has-time-form .ensures) ∙ not-false _ (c .before .before .before .before .if1 .left)) (c .before .before .before .stamp-of .ensures) (sym (c .before .before .is-stamp .ensures) ∙ c .before .if2 .taken) (reads-back (c .instant-of .result) (c .instant-of .ok) .is ∙ c .instant-of .ensures)
@@ -31,11 +19,5 @@ returns-3 c = stamp-no _ _ (sym (c .before .before .before .before .has-time-for
 pub stamp-time-spec : {M : Type 1} → statement M
 stamp-time-spec =
     tie.close
-    (tie.spec
-    has-time-form-requires
-    returns
-    stamp-of-requires
-    is-stamp-requires
-    instant-of-requires
-    returns-2
-    returns-3)
+    (tie.spec (λ c κs. search needs) returns (λ c κs. search needs) (λ c κs. search needs)
+    (λ c κs. sym (c .before .is-stamp .ensures) ∙ c .if2 .taken) returns-2 returns-3)

@@ -10,14 +10,8 @@ sub-result c = negated-fits (c .before .args .n) (c .before .pre) (c .if1 .taken
 cast-result : tie.Need-cast-result
 cast-result c = negated-cast (c .before .args .n) (c .before .pre) (c .if1 .taken)
 
-returns : tie.Need-returns
-returns c = search needs
-
 cast-result-2 : tie.Need-cast-result-2
 cast-result-2 c = plain-cast (c .before .args .n) (c .before .pre) (c .if1 .left)
 
-returns-2 : tie.Need-returns-2
-returns-2 c = search needs
-
 pub magnitude-spec : {M : Type 1} → statement M
-magnitude-spec = tie.close (tie.spec sub-result cast-result returns cast-result-2 returns-2)
+magnitude-spec = tie.close (tie.spec sub-result cast-result (λ c. search needs) cast-result-2 (λ c. search needs))

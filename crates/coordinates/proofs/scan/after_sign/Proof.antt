@@ -5,12 +5,6 @@ use Rattle.coordinates.proofs.Coordinates.{sign-in, sign-some, sign-non
 use Rattle.coordinates.proofs.scan.after_sign.Statement.{statement}
 use Rattle.coordinates.proofs.scan.after_sign.Tie as tie
 
-leads-requires : tie.Need-leads-requires
-leads-requires c κs = search needs
-
-leads-requires-2 : tie.Need-leads-requires-2
-leads-requires-2 c κs = search needs
-
 add-result : tie.Need-add-result
 add-result c = omega (arith, sign-in (c .before .before .before .before .args .s .now) (c .before .before .before .before .args .at) _ _ (c .before .before .leads .ensures) (c .before .leads2 .ensures) (c .if1 .taken))
 
@@ -21,4 +15,4 @@ returns-2 : tie.Need-returns-2
 returns-2 c = sign-none _ _ _ _ (c .before .before .leads .ensures) (c .before .leads2 .ensures) (c .if1 .left)
 
 pub after-sign-spec : {M : Type 1} → statement M
-after-sign-spec = tie.close (tie.spec leads-requires leads-requires-2 add-result returns returns-2)
+after-sign-spec = tie.close (tie.spec (λ c κs. search needs) (λ c κs. search needs) add-result returns returns-2)

@@ -5,18 +5,6 @@ use Rattle.coordinates.proofs.Coordinates.{no-decimal, beyond, within-l
 use Rattle.coordinates.proofs.scan.coordinate_at.Statement.{statement}
 use Rattle.coordinates.proofs.scan.coordinate_at.Tie as tie
 
-leads-requires : tie.Need-leads-requires
-leads-requires c κs = search needs
-
-after-sign-requires : tie.Need-after-sign-requires
-after-sign-requires c κs = search needs
-
-decimal-at-requires : tie.Need-decimal-at-requires
-decimal-at-requires c κs = search needs
-
-enum-known-d : tie.Need-enum-known-d
-enum-known-d c = search needs
-
 enum-told : tie.Need-enum-told
 enum-told c = search needs
 
@@ -28,9 +16,6 @@ returns-2 : tie.Need-returns-2
 returns-2 c =
     beyond _ _ _ _ (c .before .before .before .before .before .after-sign .ensures) _ _ (sym (c .before .before .before .before .decimal-at .ensures) ∙ c .before .before .d .given .1) (c .if1 .taken)
 
-with-sign-requires : tie.Need-with-sign-requires
-with-sign-requires c κs = search needs
-
 returns-3 : tie.Need-returns-3
 returns-3 c =
     within-limit _ _ _ _ (c .before .before .before .before .before .before .after-sign .ensures) _ _ (sym (c .before .before .before .before .before .decimal-at .ensures) ∙ c .before .before .before .d .given .1) (c .before .if1 .left)
@@ -39,13 +24,5 @@ returns-3 c =
 pub coordinate-at-spec : {M : Type 1} → statement M
 coordinate-at-spec =
     tie.close
-    (tie.spec
-    leads-requires
-    after-sign-requires
-    decimal-at-requires
-    enum-known-d
-    enum-told
-    returns
-    returns-2
-    with-sign-requires
-    returns-3)
+    (tie.spec (λ c κs. search needs) (λ c κs. search needs) (λ c κs. search needs) (λ c. search needs) enum-told returns returns-2
+    (λ c κs. search needs) returns-3)

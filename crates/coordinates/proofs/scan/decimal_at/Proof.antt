@@ -11,12 +11,6 @@ use Rattle.coordinates.proofs.Decimals.{too-long, no-digits, no-point, 
 use Rattle.coordinates.proofs.scan.decimal_at.Statement.{statement}
 use Rattle.coordinates.proofs.scan.decimal_at.Tie as tie
 
-digits-at-requires : tie.Need-digits-at-requires
-digits-at-requires c κs = search needs
-
-enum-known-w : tie.Need-enum-known-w
-enum-known-w c = search needs
-
 enum-told : tie.Need-enum-told
 enum-told c = search needs
 
@@ -33,9 +27,6 @@ scale-requires c κs = (
   c .before .before .before .before .before .before .pre .1,
 )
 
-leads-requires : tie.Need-leads-requires
-leads-requires c κs = search needs
-
 returns-3 : tie.Need-returns-3
 returns-3 c =
     no-point _ _ _ _ _ _ (sym (c .before .before .before .before .before .before .before .digits-at .ensures) ∙ c .before .before .before .before .before .w .given .1) (c .before .before .before .if1 .left) _ (c .before .before .scale .ensures .0)
@@ -47,15 +38,6 @@ add-start c =
       arith,
       leads-in (c .before .before .before .before .before .before .before .before .before .args .s .now) (c .before .before .before .before .before .w .given .0 .1 .0) (code ".") (sym (c .before .leads .ensures) ∙ not-false _ (c .if2 .left)),
     )
-
-digits-at-requires-2 : tie.Need-digits-at-requires-2
-digits-at-requires-2 c κs = search needs
-
-enum-known-f : tie.Need-enum-known-f
-enum-known-f c = search needs
-
-enum-told-2 : tie.Need-enum-told-2
-enum-told-2 c = search needs
 
 returns-4 : tie.Need-returns-4
 returns-4 c =
@@ -97,23 +79,5 @@ returns-6 c =
 pub decimal-at-spec : {M : Type 1} → statement M
 decimal-at-spec =
     tie.close
-    (tie.spec
-    digits-at-requires
-    enum-known-w
-    enum-told
-    returns
-    returns-2
-    scale-requires
-    leads-requires
-    returns-3
-    add-start
-    digits-at-requires-2
-    enum-known-f
-    enum-told-2
-    returns-4
-    returns-5
-    sub-scale
-    sub-scale-2
-    scale-requires-2
-    add-t18
-    returns-6)
+    (tie.spec (λ c κs. search needs) (λ c. search needs) enum-told returns returns-2 scale-requires (λ c κs. search needs) returns-3 add-start
+    (λ c κs. search needs) (λ c. search needs) (λ c. search needs) returns-4 returns-5 sub-scale sub-scale-2 scale-requires-2 add-t18 returns-6)

@@ -17,15 +17,6 @@ Inv-loop s at most value₀ left₀ i₀ value left i = (left ≤ most) × (valu
 abbrev μ-loop : tie.MeasureT-loop
 μ-loop s at most value₀ left₀ i₀ value left i = length s - i
 
-loop-holds : tie.Need-loop-holds Inv-loop μ-loop
-loop-holds c = (omega arith, rw sub-self (omega arith), run-start _ _ _)
-
-shared-slice-read-b : tie.Need-shared-slice-read-b Inv-loop μ-loop
-shared-slice-read-b c = search needs
-
-is-digit-requires : tie.Need-is-digit-requires Inv-loop μ-loop
-is-digit-requires c κs = search needs
-
 returns : tie.Need-returns Inv-loop μ-loop
 returns c =
     sym (run-stop _ _ _ _ (c .before .before .before .loop-test .taken) (sym (c .before .is-digit .ensures) ∙ not-true _ (c .if1 .taken)))
@@ -50,15 +41,6 @@ add-value c =
     more-fits _ _ _ (c .before .before .before .before .before .before .before .pre) (c .before .before .before .before .before .loop .inv .1)
     _ (sym (c .before .before .is-digit .ensures) ∙ not-false _ (c .before .if1 .left))
 
-sub-left : tie.Need-sub-left Inv-loop μ-loop
-sub-left c = omega arith
-
-add-i : tie.Need-add-i Inv-loop μ-loop
-add-i c = omega arith
-
-loop-less : tie.Need-loop-less Inv-loop μ-loop
-loop-less c = omega arith
-
 loop-again : tie.Need-loop-again Inv-loop μ-loop
 loop-again c =
     let inv = c .before .before .before .before .before .loop .inv in
@@ -75,20 +57,5 @@ returns-3 c = sym (run-end _ _ _ _ (c .loop-test .left)) ∙ c .before .loop .in
 pub digits-at-spec : {M : Type 1} → statement M
 digits-at-spec =
     tie.close
-    (tie.spec
-    Inv-loop
-    μ-loop
-    loop-holds
-    shared-slice-read-b
-    is-digit-requires
-    returns
-    returns-2
-    mul-value
-    sub-value
-    cast-value
-    add-value
-    sub-left
-    add-i
-    loop-less
-    loop-again
-    returns-3)
+    (tie.spec Inv-loop μ-loop (λ c. (omega arith, rw sub-self (omega arith), run-start _ _ _)) (λ c. search needs) (λ c κs. search needs) returns
+    returns-2 mul-value sub-value cast-value add-value (λ c. omega arith) (λ c. omega arith) (λ c. omega arith) loop-again returns-3)

@@ -5,14 +5,5 @@ use Rattle.coordinates.proofs.Leading.{leads-at, leads-none}
 use Rattle.coordinates.proofs.scan.leads.Statement.{statement}
 use Rattle.coordinates.proofs.scan.leads.Tie as tie
 
-shared-slice-read-result : tie.Need-shared-slice-read-result
-shared-slice-read-result c = search needs
-
-returns : tie.Need-returns
-returns c = sym (leads-at _ _ _ (c .before .if1 .taken))
-
-returns-2 : tie.Need-returns-2
-returns-2 c = sym (leads-none _ _ _ (c .if1 .left))
-
 pub leads-spec : {M : Type 1} → statement M
-leads-spec = tie.close (tie.spec shared-slice-read-result returns returns-2)
+leads-spec = tie.close (tie.spec (λ c. search needs) (λ c. sym (leads-at _ _ _ (c .before .if1 .taken))) (λ c. sym (leads-none _ _ _ (c .if1 .left))))

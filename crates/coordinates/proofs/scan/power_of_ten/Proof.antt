@@ -5,31 +5,14 @@ use Rattle.coordinates.proofs.Tens.{last-power}
 use Rattle.coordinates.proofs.scan.power_of_ten.Statement.{statement}
 use Rattle.coordinates.proofs.scan.power_of_ten.Tie as tie
 
-returns : tie.Need-returns
-returns c = ap (λ (n : ℕ). 10 ^ n) (sym (c .if1 .taken))
-
-returns-2 : tie.Need-returns-2
-returns-2 c = ap (λ (n : ℕ). 10 ^ n) (sym (c .if2 .taken))
-
-returns-3 : tie.Need-returns-3
-returns-3 c = ap (λ (n : ℕ). 10 ^ n) (sym (c .if3 .taken))
-
-returns-4 : tie.Need-returns-4
-returns-4 c = ap (λ (n : ℕ). 10 ^ n) (sym (c .if4 .taken))
-
-returns-5 : tie.Need-returns-5
-returns-5 c = ap (λ (n : ℕ). 10 ^ n) (sym (c .if5 .taken))
-
-returns-6 : tie.Need-returns-6
-returns-6 c = ap (λ (n : ℕ). 10 ^ n) (sym (c .if6 .taken))
-
-returns-7 : tie.Need-returns-7
-returns-7 c = ap (λ (n : ℕ). 10 ^ n) (sym (c .if7 .taken))
-
 returns-8 : tie.Need-returns-8
 returns-8 c =
     last-power _ (c .before .before .before .before .before .before .before .pre) (c .before .before .before .before .before .before .if1 .left) (c .before .before .before .before .before .if2 .left) (c .before .before .before .before .if3 .left) (c .before .before .before .if4 .left) (c .before .before .if5 .left) (c .before .if6 .left) (c .if7 .left)
 
 pub power-of-ten-spec : {M : Type 1} → statement M
 power-of-ten-spec =
-    tie.close (tie.spec returns returns-2 returns-3 returns-4 returns-5 returns-6 returns-7 returns-8)
+    tie.close
+    (tie.spec (λ c. ap (λ (n : ℕ). 10 ^ n) (sym (c .if1 .taken))) (λ c. ap (λ (n : ℕ). 10 ^ n) (sym (c .if2 .taken)))
+    (λ c. ap (λ (n : ℕ). 10 ^ n) (sym (c .if3 .taken))) (λ c. ap (λ (n : ℕ). 10 ^ n) (sym (c .if4 .taken)))
+    (λ c. ap (λ (n : ℕ). 10 ^ n) (sym (c .if5 .taken))) (λ c. ap (λ (n : ℕ). 10 ^ n) (sym (c .if6 .taken)))
+    (λ c. ap (λ (n : ℕ). 10 ^ n) (sym (c .if7 .taken))) returns-8)

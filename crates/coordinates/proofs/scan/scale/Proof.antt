@@ -4,9 +4,6 @@ use Rattle.coordinates.proofs.Tens.{scale-fits, scale-is}
 use Rattle.coordinates.proofs.scan.scale.Statement.{statement}
 use Rattle.coordinates.proofs.scan.scale.Tie as tie
 
-power-of-ten-requires : tie.Need-power-of-ten-requires
-power-of-ten-requires c κs = search needs
-
 mul-result : tie.Need-mul-result
 mul-result c = scale-fits _ _ _ (c .power-of-ten .ensures) (c .before .pre .0) (c .before .pre .1)
 
@@ -14,4 +11,4 @@ returns : tie.Need-returns
 returns c = scale-is _ _ _ (c .power-of-ten .ensures) (c .before .pre .0) (c .before .pre .1)
 
 pub scale-spec : {M : Type 1} → statement M
-scale-spec = tie.close (tie.spec power-of-ten-requires mul-result returns)
+scale-spec = tie.close (tie.spec (λ c κs. search needs) mul-result returns)

@@ -4,17 +4,8 @@ use Rattle.coordinates.proofs.Coordinates.{minus-fits, minus-is, plain-
 use Rattle.coordinates.proofs.scan.with_sign.Statement.{statement}
 use Rattle.coordinates.proofs.scan.with_sign.Tie as tie
 
-cast-units : tie.Need-cast-units
-cast-units c = search needs
-
-sub-result : tie.Need-sub-result
-sub-result c = minus-fits _ (c .before .pre)
-
-returns : tie.Need-returns
-returns c = minus-is _ (c .before .pre) _ (c .if1 .taken)
-
-returns-2 : tie.Need-returns-2
-returns-2 c = plain-is _ (c .before .pre) _ (c .if1 .left)
-
 pub with-sign-spec : {M : Type 1} → statement M
-with-sign-spec = tie.close (tie.spec cast-units sub-result returns returns-2)
+with-sign-spec =
+    tie.close
+    (tie.spec (λ c. search needs) (λ c. minus-fits _ (c .before .pre)) (λ c. minus-is _ (c .before .pre) _ (c .if1 .taken))
+    (λ c. plain-is _ (c .before .pre) _ (c .if1 .left)))

@@ -6,12 +6,6 @@ use Rattle.document.proofs.Steps.{comment-behind, comment-inside}
 use Rattle.document.proofs.constructs.comment_step.Statement.{statement}
 use Rattle.document.proofs.constructs.comment_step.Tie as tie
 
-enum-known-comment : tie.Need-enum-known-comment
-enum-known-comment c = search needs
-
-moved-requires : tie.Need-moved-requires
-moved-requires c κs = search needs
-
 returns : tie.Need-returns
 returns c =
     let a = c .before .before .before .before .before .before .before .args in
@@ -20,9 +14,6 @@ returns c =
 
 enum-told : tie.Need-enum-told
 enum-told c = search needs
-
-enum-told-2 : tie.Need-enum-told-2
-enum-told-2 c = search needs
 
 returns-2 : tie.Need-returns-2
 returns-2 c =
@@ -39,12 +30,4 @@ returns-4 c = let a = c .before .before .before .args in ap (commentStep (a .s .
 pub comment-step-spec : {M : Type 1} → statement M
 comment-step-spec =
     tie.close
-    (tie.spec
-    enum-known-comment
-    moved-requires
-    returns
-    enum-told
-    enum-told-2
-    returns-2
-    returns-3
-    returns-4)
+    (tie.spec (λ c. search needs) (λ c κs. search needs) returns enum-told (λ c. search needs) returns-2 returns-3 returns-4)

@@ -8,23 +8,8 @@ use Rattle.document.proofs.Steps.{step-stop, step-space, step-comment, 
 use Rattle.document.proofs.constructs.take_step.Statement.{statement}
 use Rattle.document.proofs.constructs.take_step.Tie as tie
 
-stop-step-requires : tie.Need-stop-step-requires
-stop-step-requires c κs = search needs
-
 returns : tie.Need-returns
 returns c = let a = c .before .before .before .args in step-stop (a .s .now) (a .m) _ (c .before .if1 .taken) (c .stop-step .ensures)
-
-shared-slice-read-b : tie.Need-shared-slice-read-b
-shared-slice-read-b c = search needs
-
-is-space-requires : tie.Need-is-space-requires
-is-space-requires c κs = search needs
-
-skip-space-requires : tie.Need-skip-space-requires
-skip-space-requires c κs = search needs
-
-moved-requires : tie.Need-moved-requires
-moved-requires c κs = search needs
 
 returns-2 : tie.Need-returns-2
 returns-2 c =
@@ -33,22 +18,10 @@ returns-2 c =
     (sym (c .before .before .before .is-space .ensures) ∙ c .before .before .if2 .taken) (c .before .skip-space .ensures)
     (c .moved .ensures)
 
-slice-aggregate-starts-at : tie.Need-slice-aggregate-starts-at
-slice-aggregate-starts-at c = search needs
-
-starts-at-requires : tie.Need-starts-at-requires
-starts-at-requires c κs = search needs
-
 add-read-comment : tie.Need-add-read-comment
 add-read-comment c =
     let a = c .before .before .before .before .before .before .before .before .args in
     omega (arith, starts-within (ascii "<!--") (a .s .now) (a .m .at) (omega arith) (sym (c .before .starts-at .ensures) ∙ c .if3 .taken))
-
-read-comment-requires : tie.Need-read-comment-requires
-read-comment-requires c κs = search needs
-
-comment-step-requires : tie.Need-comment-step-requires
-comment-step-requires c κs = search needs
 
 returns-3 : tie.Need-returns-3
 returns-3 c =
@@ -57,9 +30,6 @@ returns-3 c =
     (sym (c .before .before .before .before .before .before .is-space .ensures) ∙ c .before .before .before .before .before .if2 .left)
     _ _ (sym (c .before .before .before .starts-at .ensures) ∙ c .before .before .if3 .taken) (c .before .read-comment .ensures)
     (c .comment-step .ensures)
-
-tag-step-requires : tie.Need-tag-step-requires
-tag-step-requires c κs = search needs
 
 returns-4 : tie.Need-returns-4
 returns-4 c =
@@ -79,20 +49,6 @@ returns-5 c =
 pub take-step-spec : {M : Type 1} → statement M
 take-step-spec =
     tie.close
-    (tie.spec
-    stop-step-requires
-    returns
-    shared-slice-read-b
-    is-space-requires
-    skip-space-requires
-    moved-requires
-    returns-2
-    slice-aggregate-starts-at
-    starts-at-requires
-    add-read-comment
-    read-comment-requires
-    comment-step-requires
-    returns-3
-    tag-step-requires
-    returns-4
-    returns-5)
+    (tie.spec (λ c κs. search needs) returns (λ c. search needs) (λ c κs. search needs) (λ c κs. search needs) (λ c κs. search needs) returns-2
+    (λ c. search needs) (λ c κs. search needs) add-read-comment (λ c κs. search needs) (λ c κs. search needs) returns-3 (λ c κs. search needs)
+    returns-4 returns-5)

@@ -4,25 +4,10 @@ use Rattle.document.proofs.ElementSteps.{empty-misplaced, empty-leaf}
 use Rattle.document.proofs.elements.empty_step.Statement.{statement}
 use Rattle.document.proofs.elements.empty_step.Tie as tie
 
-next-requires : tie.Need-next-requires
-next-requires c κs = search needs
-
-is-misplaced-requires : tie.Need-is-misplaced-requires
-is-misplaced-requires c κs = search needs
-
 returns : tie.Need-returns
 returns c =
     let a = c .before .before .before .args in
     empty-misplaced (a .m) (a .class) _ (c .before .before .next .ensures) _ (c .before .is-misplaced .ensures) (a .next) (c .if1 .taken)
-
-slice-aggregate-text-rule : tie.Need-slice-aggregate-text-rule
-slice-aggregate-text-rule c = search needs
-
-text-rule-requires : tie.Need-text-rule-requires
-text-rule-requires c κs = search needs
-
-rule-step-requires : tie.Need-rule-step-requires
-rule-step-requires c κs = search needs
 
 returns-2 : tie.Need-returns-2
 returns-2 c =
@@ -34,11 +19,4 @@ returns-2 c =
 pub empty-step-spec : {M : Type 1} → statement M
 empty-step-spec =
     tie.close
-    (tie.spec
-    next-requires
-    is-misplaced-requires
-    returns
-    slice-aggregate-text-rule
-    text-rule-requires
-    rule-step-requires
-    returns-2)
+    (tie.spec (λ c κs. search needs) (λ c κs. search needs) returns (λ c. search needs) (λ c κs. search needs) (λ c κs. search needs) returns-2)

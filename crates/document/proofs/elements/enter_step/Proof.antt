@@ -10,20 +10,11 @@ returns c =
     let a = c .before .before .before .args in
     enter-many (a .m) (a .row) (a .class) (a .next) (c .before .before .if1 .taken) (c .if2 .taken)
 
-add-entered : tie.Need-add-entered
-add-entered c = omega arith
-
-entered-requires : tie.Need-entered-requires
-entered-requires c κs = search needs
-
 returns-2 : tie.Need-returns-2
 returns-2 c =
     let a = c .before .before .before .before .before .args in
     enter-info (a .m) (a .row) (a .class) (a .next) _ (c .before .before .before .before .if1 .taken) (c .before .before .if2 .left)
     (c .entered .ensures)
-
-entered-requires-2 : tie.Need-entered-requires-2
-entered-requires-2 c κs = search needs
 
 returns-3 : tie.Need-returns-3
 returns-3 c =
@@ -31,6 +22,4 @@ returns-3 c =
     enter-other (a .m) (a .row) (a .class) (a .next) _ (c .before .if1 .left) (c .entered2 .ensures)
 
 pub enter-step-spec : {M : Type 1} → statement M
-enter-step-spec =
-    tie.close
-    (tie.spec returns add-entered entered-requires returns-2 entered-requires-2 returns-3)
+enter-step-spec = tie.close (tie.spec returns (λ c. omega arith) (λ c κs. search needs) returns-2 (λ c κs. search needs) returns-3)

@@ -4,20 +4,11 @@ use Rattle.document.proofs.ElementSteps.{open-misplaced, open-container
 use Rattle.document.proofs.elements.open_step.Statement.{statement}
 use Rattle.document.proofs.elements.open_step.Tie as tie
 
-next-requires : tie.Need-next-requires
-next-requires c κs = search needs
-
-is-misplaced-requires : tie.Need-is-misplaced-requires
-is-misplaced-requires c κs = search needs
-
 returns : tie.Need-returns
 returns c =
     let a = c .before .before .before .before .args in
     open-misplaced (a .m) (a .class) _ (c .before .before .next .ensures) _ (c .before .is-misplaced .ensures) (a .s .now) (a .next)
     (c .if1 .taken)
-
-enter-step-requires : tie.Need-enter-step-requires
-enter-step-requires c κs = search needs
 
 returns-2 : tie.Need-returns-2
 returns-2 c =
@@ -25,9 +16,6 @@ returns-2 c =
     open-container (a .m) (a .class) _ (c .before .before .before .before .next .ensures) _
     (c .before .before .before .is-misplaced .ensures) (a .s .now) (a .next) _ (c .before .before .if1 .left) (c .before .if2 .taken)
     (c .enter-step .ensures)
-
-text-step-requires : tie.Need-text-step-requires
-text-step-requires c κs = search needs
 
 returns-3 : tie.Need-returns-3
 returns-3 c =
@@ -39,11 +27,4 @@ returns-3 c =
 pub open-step-spec : {M : Type 1} → statement M
 open-step-spec =
     tie.close
-    (tie.spec
-    next-requires
-    is-misplaced-requires
-    returns
-    enter-step-requires
-    returns-2
-    text-step-requires
-    returns-3)
+    (tie.spec (λ c κs. search needs) (λ c κs. search needs) returns (λ c κs. search needs) returns-2 (λ c κs. search needs) returns-3)

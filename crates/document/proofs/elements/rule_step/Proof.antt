@@ -4,9 +4,6 @@ use Rattle.document.proofs.ElementSteps.{ruled-none, ruled-some}
 use Rattle.document.proofs.elements.rule_step.Statement.{statement}
 use Rattle.document.proofs.elements.rule_step.Tie as tie
 
-moved-requires : tie.Need-moved-requires
-moved-requires c κs = search needs
-
 returns : tie.Need-returns
 returns c =
     let a = c .before .before .args in
@@ -16,4 +13,4 @@ returns-2 : tie.Need-returns-2
 returns-2 c = let a = c .before .args in ruled-some (a .m) (a .row) (a .leaf) (a .class) (a .from) (a .until) (a .number) (c .if1 .left)
 
 pub rule-step-spec : {M : Type 1} → statement M
-rule-step-spec = tie.close (tie.spec moved-requires returns returns-2)
+rule-step-spec = tie.close (tie.spec (λ c κs. search needs) returns returns-2)

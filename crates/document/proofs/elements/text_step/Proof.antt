@@ -6,24 +6,6 @@ use Rattle.document.proofs.ElementSteps.{text-ruled}
 use Rattle.document.proofs.elements.text_step.Statement.{statement}
 use Rattle.document.proofs.elements.text_step.Tie as tie
 
-read-text-requires : tie.Need-read-text-requires
-read-text-requires c κs = search needs
-
-enum-known-content : tie.Need-enum-known-content
-enum-known-content c = search needs
-
-part-requires : tie.Need-part-requires
-part-requires c κs = search needs
-
-text-rule-requires : tie.Need-text-rule-requires
-text-rule-requires c κs = search needs
-
-rule-step-requires : tie.Need-rule-step-requires
-rule-step-requires c κs = search needs
-
-enum-known-content-2 : tie.Need-enum-known-content-2
-enum-known-content-2 c = search needs
-
 enum-told : tie.Need-enum-told
 enum-told c = search needs
 
@@ -49,14 +31,5 @@ returns-3 c =
 pub text-step-spec : {M : Type 1} → statement M
 text-step-spec =
     tie.close
-    (tie.spec
-    read-text-requires
-    enum-known-content
-    part-requires
-    text-rule-requires
-    rule-step-requires
-    enum-known-content-2
-    enum-told
-    returns
-    returns-2
-    returns-3)
+    (tie.spec (λ c κs. search needs) (λ c. search needs) (λ c κs. search needs) (λ c κs. search needs) (λ c κs. search needs) (λ c. search needs)
+    enum-told returns returns-2 returns-3)

@@ -4,14 +4,8 @@ use Rattle.document.proofs.ElementSteps.{due-container, due-leaf}
 use Rattle.document.proofs.modes.open_class.Statement.{statement}
 use Rattle.document.proofs.modes.open_class.Tie as tie
 
-container-of-requires : tie.Need-container-of-requires
-container-of-requires c κs = search needs
-
 returns : tie.Need-returns
 returns c = due-container (c .before .before .before .args .m) _ (c .before .if1 .taken) (c .container-of .ensures)
 
-returns-2 : tie.Need-returns-2
-returns-2 c = due-leaf (c .before .before .args .m) (c .if1 .left)
-
 pub open-class-spec : {M : Type 1} → statement M
-open-class-spec = tie.close (tie.spec container-of-requires returns returns-2)
+open-class-spec = tie.close (tie.spec (λ c κs. search needs) returns (λ c. due-leaf (c .before .before .args .m) (c .if1 .left)))

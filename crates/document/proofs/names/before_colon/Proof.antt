@@ -17,21 +17,9 @@ Inv-loop name i₀ i = i + leading isBeforeColon (drop i name) ≡ leading isBef
 abbrev μ-loop : tie.MeasureT-loop
 μ-loop name i₀ i = length name - i
 
-loop-holds : tie.Need-loop-holds Inv-loop μ-loop
-loop-holds c = omega arith
-
-shared-slice-read-if1 : tie.Need-shared-slice-read-if1 Inv-loop μ-loop
-shared-slice-read-if1 c = search needs
-
 returns : tie.Need-returns Inv-loop μ-loop
 returns c =
     sym (run-stop isBeforeColon _ _ (c .before .before .loop-test .taken) (colon _ (c .if1 .taken))) ∙ c .before .before .before .loop .inv
-
-add-i : tie.Need-add-i Inv-loop μ-loop
-add-i c = omega arith
-
-loop-less : tie.Need-loop-less Inv-loop μ-loop
-loop-less c = omega arith
 
 loop-again : tie.Need-loop-again Inv-loop μ-loop
 loop-again c =
@@ -43,13 +31,4 @@ returns-2 c = sym (run-end isBeforeColon _ _ (c .loop-test .left)) ∙ c .before
 pub before-colon-spec : {M : Type 1} → statement M
 before-colon-spec =
     tie.close
-    (tie.spec
-    Inv-loop
-    μ-loop
-    loop-holds
-    shared-slice-read-if1
-    returns
-    add-i
-    loop-less
-    loop-again
-    returns-2)
+    (tie.spec Inv-loop μ-loop (λ c. omega arith) (λ c. search needs) returns (λ c. omega arith) (λ c. omega arith) loop-again returns-2)

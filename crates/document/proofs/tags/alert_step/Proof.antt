@@ -6,20 +6,8 @@ use Rattle.document.proofs.TagSteps.{alert-bound}
 use Rattle.document.proofs.tags.alert_step.Statement.{statement}
 use Rattle.document.proofs.tags.alert_step.Tie as tie
 
-read-name-space-requires : tie.Need-read-name-space-requires
-read-name-space-requires c κs = search needs
-
-enum-known-space : tie.Need-enum-known-space
-enum-known-space c = search needs
-
-bound-step-requires : tie.Need-bound-step-requires
-bound-step-requires c κs = search needs
-
 enum-told : tie.Need-enum-told
 enum-told c = search needs
-
-enum-told-2 : tie.Need-enum-told-2
-enum-told-2 c = search needs
 
 returns : tie.Need-returns
 returns c =
@@ -41,12 +29,4 @@ returns-3 c =
 pub alert-step-spec : {M : Type 1} → statement M
 alert-step-spec =
     tie.close
-    (tie.spec
-    read-name-space-requires
-    enum-known-space
-    bound-step-requires
-    enum-told
-    enum-told-2
-    returns
-    returns-2
-    returns-3)
+    (tie.spec (λ c κs. search needs) (λ c. search needs) (λ c κs. search needs) enum-told (λ c. search needs) returns returns-2 returns-3)

@@ -4,18 +4,6 @@ use Rattle.document.proofs.TagSteps.{bound-alert, bound-other}
 use Rattle.document.proofs.tags.bound_step.Statement.{statement}
 use Rattle.document.proofs.tags.bound_step.Tie as tie
 
-add-name-under : tie.Need-add-name-under
-add-name-under c = search needs
-
-name-under-requires : tie.Need-name-under-requires
-name-under-requires c κs = search needs
-
-is-named-requires : tie.Need-is-named-requires
-is-named-requires c κs = search needs
-
-next-requires : tie.Need-next-requires
-next-requires c κs = search needs
-
 returns : tie.Need-returns
 returns c =
     let a = c .before .before .before .before .before .before .args in
@@ -29,6 +17,4 @@ returns-2 c =
     (c .before .is-named .ensures) (c .if1 .left)
 
 pub bound-step-spec : {M : Type 1} → statement M
-bound-step-spec =
-    tie.close
-    (tie.spec add-name-under name-under-requires is-named-requires next-requires returns returns-2)
+bound-step-spec = tie.close (tie.spec (λ c. search needs) (λ c κs. search needs) (λ c κs. search needs) (λ c κs. search needs) returns returns-2)

@@ -4,25 +4,13 @@ use Rattle.document.proofs.TagSteps.{close-leaf, close-missing, close-c
 use Rattle.document.proofs.tags.close_step.Statement.{statement}
 use Rattle.document.proofs.tags.close_step.Tie as tie
 
-moved-requires : tie.Need-moved-requires
-moved-requires c κs = search needs
-
 returns : tie.Need-returns
 returns c = let a = c .before .before .before .args in close-leaf (a .m) (a .next) _ (c .before .if1 .taken) (c .moved .ensures)
-
-next-requires : tie.Need-next-requires
-next-requires c κs = search needs
 
 returns-2 : tie.Need-returns-2
 returns-2 c =
     let a = c .before .before .before .before .args in
     close-missing (a .m) (a .next) _ (c .before .before .if1 .left) (c .before .next .ensures) (c .if2 .taken)
-
-moved-requires-2 : tie.Need-moved-requires-2
-moved-requires-2 c κs = search needs
-
-container-of-requires : tie.Need-container-of-requires
-container-of-requires c κs = search needs
 
 returns-3 : tie.Need-returns-3
 returns-3 c =
@@ -33,11 +21,4 @@ returns-3 c =
 pub close-step-spec : {M : Type 1} → statement M
 close-step-spec =
     tie.close
-    (tie.spec
-    moved-requires
-    returns
-    next-requires
-    returns-2
-    moved-requires-2
-    container-of-requires
-    returns-3)
+    (tie.spec (λ c κs. search needs) returns (λ c κs. search needs) returns-2 (λ c κs. search needs) (λ c κs. search needs) returns-3)

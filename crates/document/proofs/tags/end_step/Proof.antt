@@ -6,18 +6,6 @@ use Rattle.document.proofs.TagSteps.{end-right, end-wrong}
 use Rattle.document.proofs.tags.end_step.Statement.{statement}
 use Rattle.document.proofs.tags.end_step.Tie as tie
 
-read-tail-requires : tie.Need-read-tail-requires
-read-tail-requires c κs = search needs
-
-enum-known-tail : tie.Need-enum-known-tail
-enum-known-tail c = search needs
-
-is-right-end-requires : tie.Need-is-right-end-requires
-is-right-end-requires c κs = search needs
-
-close-step-requires : tie.Need-close-step-requires
-close-step-requires c κs = search needs
-
 returns : tie.Need-returns
 returns c =
     let a = c .before .before .before .before .before .before .before .before .args in
@@ -25,9 +13,6 @@ returns c =
     (c .close-step .ensures)
     ∙ ap (endStep (a .s .now) (a .m) (a .n))
     (sym (c .before .before .before .before .tail .given .1) ∙ c .before .before .before .before .before .before .read-tail .ensures)
-
-enum-known-tail-2 : tie.Need-enum-known-tail-2
-enum-known-tail-2 c = search needs
 
 enum-told : tie.Need-enum-told
 enum-told c = search needs
@@ -52,14 +37,5 @@ returns-4 c =
 pub end-step-spec : {M : Type 1} → statement M
 end-step-spec =
     tie.close
-    (tie.spec
-    read-tail-requires
-    enum-known-tail
-    is-right-end-requires
-    close-step-requires
-    returns
-    enum-known-tail-2
-    enum-told
-    returns-2
-    returns-3
-    returns-4)
+    (tie.spec (λ c κs. search needs) (λ c. search needs) (λ c κs. search needs) (λ c κs. search needs) returns (λ c. search needs) enum-told
+    returns-2 returns-3 returns-4)

@@ -4,21 +4,6 @@ use Rattle.document.proofs.TagSteps.{tag-end, tag-end-short}
 use Rattle.document.proofs.tags.end_tag_step.Statement.{statement}
 use Rattle.document.proofs.tags.end_tag_step.Tie as tie
 
-add-name-end : tie.Need-add-name-end
-add-name-end c = search needs
-
-name-end-requires : tie.Need-name-end-requires
-name-end-requires c κs = search needs
-
-tag-end-requires : tie.Need-tag-end-requires
-tag-end-requires c κs = search needs
-
-enum-known-end : tie.Need-enum-known-end
-enum-known-end c = search needs
-
-end-step-requires : tie.Need-end-step-requires
-end-step-requires c κs = search needs
-
 enum-told : tie.Need-enum-told
 enum-told c = search needs
 
@@ -39,12 +24,5 @@ returns-2 c =
 pub end-tag-step-spec : {M : Type 1} → statement M
 end-tag-step-spec =
     tie.close
-    (tie.spec
-    add-name-end
-    name-end-requires
-    tag-end-requires
-    enum-known-end
-    end-step-requires
-    enum-told
-    returns
+    (tie.spec (λ c. search needs) (λ c κs. search needs) (λ c κs. search needs) (λ c. search needs) (λ c κs. search needs) enum-told returns
     returns-2)

@@ -7,18 +7,6 @@ use Rattle.document.proofs.tags.is_alert.Tie as tie
 returns : tie.Need-returns
 returns c = let a = c .before .before .before .args in alert-late (a .s .now) (a .m) (a .n) (c .if1 .taken)
 
-add-part : tie.Need-add-part
-add-part c = search needs
-
-part-requires : tie.Need-part-requires
-part-requires c κs = search needs
-
-local-name-requires : tie.Need-local-name-requires
-local-name-requires c κs = search needs
-
-is-named-requires : tie.Need-is-named-requires
-is-named-requires c κs = search needs
-
 returns-2 : tie.Need-returns-2
 returns-2 c =
     let a = c .before .before .before .before .before .before .before .args in
@@ -26,6 +14,4 @@ returns-2 c =
     (c .before .local-name .ensures) (c .is-named .ensures)
 
 pub is-alert-spec : {M : Type 1} → statement M
-is-alert-spec =
-    tie.close
-    (tie.spec returns add-part part-requires local-name-requires is-named-requires returns-2)
+is-alert-spec = tie.close (tie.spec returns (λ c. search needs) (λ c κs. search needs) (λ c κs. search needs) (λ c κs. search needs) returns-2)

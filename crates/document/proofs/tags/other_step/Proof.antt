@@ -6,30 +6,6 @@ use Rattle.document.proofs.TagSteps.{other-open, other-empty}
 use Rattle.document.proofs.tags.other_step.Statement.{statement}
 use Rattle.document.proofs.tags.other_step.Tie as tie
 
-read-tail-requires : tie.Need-read-tail-requires
-read-tail-requires c κs = search needs
-
-add-name-in : tie.Need-add-name-in
-add-name-in c = search needs
-
-name-in-requires : tie.Need-name-in-requires
-name-in-requires c κs = search needs
-
-class-of-requires : tie.Need-class-of-requires
-class-of-requires c κs = search needs
-
-enum-known-tail : tie.Need-enum-known-tail
-enum-known-tail c = search needs
-
-open-step-requires : tie.Need-open-step-requires
-open-step-requires c κs = search needs
-
-enum-known-tail-2 : tie.Need-enum-known-tail-2
-enum-known-tail-2 c = search needs
-
-empty-step-requires : tie.Need-empty-step-requires
-empty-step-requires c κs = search needs
-
 enum-told : tie.Need-enum-told
 enum-told c = search needs
 
@@ -57,16 +33,5 @@ returns-3 c =
 pub other-step-spec : {M : Type 1} → statement M
 other-step-spec =
     tie.close
-    (tie.spec
-    read-tail-requires
-    add-name-in
-    name-in-requires
-    class-of-requires
-    enum-known-tail
-    open-step-requires
-    enum-known-tail-2
-    empty-step-requires
-    enum-told
-    returns
-    returns-2
-    returns-3)
+    (tie.spec (λ c κs. search needs) (λ c. search needs) (λ c κs. search needs) (λ c κs. search needs) (λ c. search needs) (λ c κs. search needs)
+    (λ c. search needs) (λ c κs. search needs) enum-told returns returns-2 returns-3)

@@ -7,34 +7,17 @@ use Rattle.xml.proofs.Places.{starts-within}
 use Rattle.document.proofs.tags.tag_step.Statement.{statement}
 use Rattle.document.proofs.tags.tag_step.Tie as tie
 
-slice-aggregate-starts-at : tie.Need-slice-aggregate-starts-at
-slice-aggregate-starts-at c = search needs
-
-starts-at-requires : tie.Need-starts-at-requires
-starts-at-requires c κs = search needs
-
 end-tag-step-requires : tie.Need-end-tag-step-requires
 end-tag-step-requires c κs =
     let a = c .before .before .before .before .args in
     let e = sym (c .before .starts-at .ensures) ∙ c .if1 .taken in
     (omega (arith, starts-within (ascii "</") (a .s .now) (a .m .at) (omega arith) e), e)
 
-returns : tie.Need-returns
-returns c = c .end-tag-step .ensures
-
 start-tag-step-requires : tie.Need-start-tag-step-requires
 start-tag-step-requires c κs = (c .before .before .before .before .pre, sym (c .before .starts-at .ensures) ∙ c .if1 .left)
-
-returns-2 : tie.Need-returns-2
-returns-2 c = c .start-tag-step .ensures
 
 pub tag-step-spec : {M : Type 1} → statement M
 tag-step-spec =
     tie.close
-    (tie.spec
-    slice-aggregate-starts-at
-    starts-at-requires
-    end-tag-step-requires
-    returns
-    start-tag-step-requires
-    returns-2)
+    (tie.spec (λ c. search needs) (λ c κs. search needs) end-tag-step-requires (λ c. c .end-tag-step .ensures) start-tag-step-requires
+    (λ c. c .start-tag-step .ensures))

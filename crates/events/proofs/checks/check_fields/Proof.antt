@@ -7,32 +7,17 @@ use borrow.Author.Needs.{needs}
 use Rattle.events.proofs.checks.check_fields.Statement.{statement}
 use Rattle.events.proofs.checks.check_fields.Tie as tie
 
-stop-requires : tie.Need-stop-requires
-stop-requires c κs = search needs
-
 returns : tie.Need-returns
 unfolding checkedFields
 returns c = simp (c .stop .ensures, lt-ltb _ _ (c .before .if1 .taken))
-
-is-listed-requires : tie.Need-is-listed-requires
-is-listed-requires c κs = search needs
-
-stop-requires-2 : tie.Need-stop-requires-2
-stop-requires-2 c κs = search needs
 
 returns-2 : tie.Need-returns-2
 unfolding checkedFields
 returns-2 c = simp (c .stop2 .ensures, le-ltb _ _ (c .before .before .before .if1 .left), sym (ap not (c .before .before .«is-listed» .ensures)) ∙ c .before .if2 .taken)
 
-stop-requires-3 : tie.Need-stop-requires-3
-stop-requires-3 c κs = search needs
-
 returns-3 : tie.Need-returns-3
 unfolding checkedFields
 returns-3 c = simp (c .stop3 .ensures, le-ltb _ _ (c .before .before .before .before .if1 .left), sym (ap not (c .before .before .before .«is-listed» .ensures)) ∙ c .before .before .if2 .left, c .before .if3 .taken)
-
-fresh-entry-requires : tie.Need-fresh-entry-requires
-fresh-entry-requires c κs = search needs
 
 returns-4 : tie.Need-returns-4
 unfolding checkedFields
@@ -41,13 +26,5 @@ returns-4 c = simp (c .«fresh-entry» .ensures, le-ltb _ _ (c .before .before .
 pub check-fields-spec : {M : Type 1} → statement M
 check-fields-spec =
     tie.close
-    (tie.spec
-    stop-requires
-    returns
-    is-listed-requires
-    stop-requires-2
-    returns-2
-    stop-requires-3
-    returns-3
-    fresh-entry-requires
-    returns-4)
+    (tie.spec (λ c κs. search needs) returns (λ c κs. search needs) (λ c κs. search needs) returns-2 (λ c κs. search needs) returns-3
+    (λ c κs. search needs) returns-4)

@@ -3,14 +3,8 @@ use borrow.Author.Tests.{lt-ltb, le-ltb}
 use Rattle.events.proofs.plans.next_place.Statement.{statement}
 use Rattle.events.proofs.plans.next_place.Tie as tie
 
-returns : tie.Need-returns
-returns c = simp (lt-ltb _ _ (c .if1 .taken))
-
-returns-2 : tie.Need-returns-2
-returns-2 c = simp (le-ltb _ _ (c .before .if1 .left), c .if2 .taken)
-
-returns-3 : tie.Need-returns-3
-returns-3 c = simp (le-ltb _ _ (c .before .if1 .left), c .if2 .left)
-
 pub next-place-spec : {M : Type 1} → statement M
-next-place-spec = tie.close (tie.spec returns returns-2 returns-3)
+next-place-spec =
+    tie.close
+    (tie.spec (λ c. simp (lt-ltb _ _ (c .if1 .taken))) (λ c. simp (le-ltb _ _ (c .before .if1 .left), c .if2 .taken))
+    (λ c. simp (le-ltb _ _ (c .before .if1 .left), c .if2 .left)))

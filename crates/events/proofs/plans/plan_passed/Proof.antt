@@ -6,18 +6,9 @@ use borrow.Author.Needs.{needs}
 use Rattle.events.proofs.plans.plan_passed.Statement.{statement}
 use Rattle.events.proofs.plans.plan_passed.Tie as tie
 
-is-above-requires : tie.Need-is-above-requires
-is-above-requires c κs = search needs
-
-merge-requires : tie.Need-merge-requires
-merge-requires c κs = search needs
-
 returns : tie.Need-returns
 unfolding planned
 returns c = simp (c .merge .ensures, lt-ltb _ _ (c .before .before .before .if1 .taken), sym (c .before .before .«is-above» .ensures) ∙ c .before .if2 .taken)
-
-refusal-requires : tie.Need-refusal-requires
-refusal-requires c κs = search needs
 
 returns-2 : tie.Need-returns-2
 unfolding planned
@@ -27,9 +18,6 @@ returns-3 : tie.Need-returns-3
 unfolding planned
 returns-3 c = simp (le-ltb _ _ (c .before .if1 .left), lt-ltb _ _ (c .if3 .taken))
 
-refusal-requires-2 : tie.Need-refusal-requires-2
-refusal-requires-2 c κs = search needs
-
 returns-4 : tie.Need-returns-4
 unfolding planned
 returns-4 c = simp (c .refusal2 .ensures, le-ltb _ _ (c .before .before .if1 .left), le-ltb _ _ (c .before .if3 .left))
@@ -37,12 +25,4 @@ returns-4 c = simp (c .refusal2 .ensures, le-ltb _ _ (c .before .before .if1 .le
 pub plan-passed-spec : {M : Type 1} → statement M
 plan-passed-spec =
     tie.close
-    (tie.spec
-    is-above-requires
-    merge-requires
-    returns
-    refusal-requires
-    returns-2
-    returns-3
-    refusal-requires-2
-    returns-4)
+    (tie.spec (λ c κs. search needs) (λ c κs. search needs) returns (λ c κs. search needs) returns-2 returns-3 (λ c κs. search needs) returns-4)

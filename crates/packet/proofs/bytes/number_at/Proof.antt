@@ -14,18 +14,6 @@ Inv-loop p at width n₀ i₀ n i = (i ≤ width) × (n ≡ numberOf i at p) × 
 abbrev μ-loop : tie.MeasureT-loop
 μ-loop p at width n₀ i₀ n i = width - i
 
-loop-holds : tie.Need-loop-holds Inv-loop μ-loop
-loop-holds c = (omega arith, sym (number-none _ _), omega arith)
-
-mul-n : tie.Need-mul-n Inv-loop μ-loop
-mul-n c = times-fits _ _ (c .before .loop .inv .2) (omega arith)
-
-add-n : tie.Need-add-n Inv-loop μ-loop
-add-n c = omega arith
-
-shared-slice-read-n : tie.Need-shared-slice-read-n Inv-loop μ-loop
-shared-slice-read-n c = omega arith
-
 cast-n : tie.Need-cast-n Inv-loop μ-loop
 cast-n c = omega (arith, c .shared-slice-known .given (c .before .before .before .args .at + c .before .before .loop .i))
 
@@ -33,12 +21,6 @@ add-n-2 : tie.Need-add-n-2 Inv-loop μ-loop
 add-n-2 c =
     let place = c .before .before .before .args .at + c .before .before .loop .i in
     more-fits _ _ _ (c .before .before .loop .inv .2) (omega (arith, c .shared-slice-known .given place)) (omega arith)
-
-add-i : tie.Need-add-i Inv-loop μ-loop
-add-i c = omega arith
-
-loop-less : tie.Need-loop-less Inv-loop μ-loop
-loop-less c = omega arith
 
 loop-again : tie.Need-loop-again Inv-loop μ-loop
 loop-again c =
@@ -56,16 +38,5 @@ returns c = let inv = c .before .loop .inv in number-whole _ _ _ _ _ (inv .0) (c
 pub number-at-spec : {M : Type 1} → statement M
 number-at-spec =
     tie.close
-    (tie.spec
-    Inv-loop
-    μ-loop
-    loop-holds
-    mul-n
-    add-n
-    shared-slice-read-n
-    cast-n
-    add-n-2
-    add-i
-    loop-less
-    loop-again
-    returns)
+    (tie.spec Inv-loop μ-loop (λ c. (omega arith, sym (number-none _ _), omega arith)) (λ c. times-fits _ _ (c .before .loop .inv .2) (omega arith))
+    (λ c. omega arith) (λ c. omega arith) cast-n add-n-2 (λ c. omega arith) (λ c. omega arith) loop-again returns)

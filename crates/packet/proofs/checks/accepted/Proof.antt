@@ -5,20 +5,8 @@ use Rattle.packet.proofs.Rules.{out-of-range, not-lasting, is-accepted}
 use Rattle.packet.proofs.checks.accepted.Statement.{statement}
 use Rattle.packet.proofs.checks.accepted.Tie as tie
 
-epicentre-requires : tie.Need-epicentre-requires
-epicentre-requires c κs = search needs
-
-in-range-requires : tie.Need-in-range-requires
-in-range-requires c κs = search needs
-
 returns : tie.Need-returns
 returns c = out-of-range (c .before .before .before .args .f) _ (c .before .before .epicentre .ensures) _ (c .before .in-range .ensures) (not-true _ (c .if1 .taken))
-
-lasting-requires : tie.Need-lasting-requires
-lasting-requires c κs = search needs
-
-is-lasting-requires : tie.Need-is-lasting-requires
-is-lasting-requires c κs = search needs
 
 returns-2 : tie.Need-returns-2
 returns-2 c =
@@ -33,11 +21,4 @@ returns-3 c =
 pub accepted-spec : {M : Type 1} → statement M
 accepted-spec =
     tie.close
-    (tie.spec
-    epicentre-requires
-    in-range-requires
-    returns
-    lasting-requires
-    is-lasting-requires
-    returns-2
-    returns-3)
+    (tie.spec (λ c κs. search needs) (λ c κs. search needs) returns (λ c κs. search needs) (λ c κs. search needs) returns-2 returns-3)

@@ -14,17 +14,10 @@ returns-2 c =
     let pre = c .before .before .before .pre in
     over _ (pre .0) (pre .1) (pre .2) (pre .3) (c .before .if1 .left) (c .if2 .taken)
 
-fields-of-requires : tie.Need-fields-of-requires
-fields-of-requires c κs = search needs
-
-accepted-requires : tie.Need-accepted-requires
-accepted-requires c κs = search needs
-
 returns-3 : tie.Need-returns-3
 returns-3 c =
     let pre = c .before .before .before .before .before .pre in
     by-fields _ (pre .0) (pre .1) (pre .2) (pre .3) (c .before .before .before .if1 .left) (c .before .before .if2 .left) _ _ (c .before .fields-of .ensures) (c .accepted .ensures)
 
 pub read-alert-spec : {M : Type 1} → statement M
-read-alert-spec =
-    tie.close (tie.spec returns returns-2 fields-of-requires accepted-requires returns-3)
+read-alert-spec = tie.close (tie.spec returns returns-2 (λ c κs. search needs) (λ c κs. search needs) returns-3)

@@ -5,27 +5,6 @@ use Rattle.packet.proofs.Signs.{given-as}
 use Rattle.packet.proofs.layout.fields_of.Statement.{statement}
 use Rattle.packet.proofs.layout.fields_of.Tie as tie
 
-flags-of-requires : tie.Need-flags-of-requires
-flags-of-requires c κs = search needs
-
-message-of-requires : tie.Need-message-of-requires
-message-of-requires c κs = search needs
-
-hazard-of-requires : tie.Need-hazard-of-requires
-hazard-of-requires c κs = search needs
-
-times-of-requires : tie.Need-times-of-requires
-times-of-requires c κs = search needs
-
-area-of-requires : tie.Need-area-of-requires
-area-of-requires c κs = search needs
-
-sub-key-at : tie.Need-sub-key-at
-sub-key-at c = search needs
-
-u32-at-requires : tie.Need-u32-at-requires
-u32-at-requires c κs = search needs
-
 returns : tie.Need-returns
 unfolding fieldsOf
 returns c = let flags = c .before .before .before .before .before .before .flags-of .ensures in
@@ -63,12 +42,5 @@ returns c = let flags = c .before .before .before .before .before .before .flags
 pub fields-of-spec : {M : Type 1} → statement M
 fields-of-spec =
     tie.close
-    (tie.spec
-    flags-of-requires
-    message-of-requires
-    hazard-of-requires
-    times-of-requires
-    area-of-requires
-    sub-key-at
-    u32-at-requires
-    returns)
+    (tie.spec (λ c κs. search needs) (λ c κs. search needs) (λ c κs. search needs) (λ c κs. search needs) (λ c κs. search needs) (λ c. search needs)
+    (λ c κs. search needs) returns)

@@ -5,23 +5,8 @@ use Rattle.packet.proofs.Answers.{no-place, on-side}
 use Rattle.packet.proofs.shape.place_in.Statement.{statement}
 use Rattle.packet.proofs.shape.place_in.Tie as tie
 
-in-range-requires : tie.Need-in-range-requires
-in-range-requires c κs = search needs
-
 returns : tie.Need-returns
 returns c = no-place (c .before .before .args .f) (c .before .before .args .place) _ (c .before .in-range .ensures) (not-true _ (c .if1 .taken))
-
-epicentre-requires : tie.Need-epicentre-requires
-epicentre-requires c κs = search needs
-
-metres-requires : tie.Need-metres-requires
-metres-requires c κs = search needs
-
-around-holds-requires : tie.Need-around-holds-requires
-around-holds-requires c κs = search needs
-
-side-of-requires : tie.Need-side-of-requires
-side-of-requires c κs = search needs
 
 returns-2 : tie.Need-returns-2
 returns-2 c =
@@ -32,11 +17,4 @@ returns-2 c =
 pub place-in-spec : {M : Type 1} → statement M
 place-in-spec =
     tie.close
-    (tie.spec
-    in-range-requires
-    returns
-    epicentre-requires
-    metres-requires
-    around-holds-requires
-    side-of-requires
-    returns-2)
+    (tie.spec (λ c κs. search needs) returns (λ c κs. search needs) (λ c κs. search needs) (λ c κs. search needs) (λ c κs. search needs) returns-2)

@@ -6,20 +6,11 @@ use Rattle.parts.proofs.Seeing.{not-placed, far-placed, side-placed}
 use Rattle.parts.proofs.areas.placed_in_part.Statement.{statement}
 use Rattle.parts.proofs.areas.placed_in_part.Tie as tie
 
-look-up-requires : tie.Need-look-up-requires
-look-up-requires c κs = search needs
-
-enum-known-found : tie.Need-enum-known-found
-enum-known-found c = search needs
-
 enum-told : tie.Need-enum-told
 enum-told c = search needs
 
 returns : tie.Need-returns
 returns c = not-placed (c .before .before .before .args .place) (c .before .before .before .args .f) _ (c .before .before .look-up .ensures) (c .enum-told .given .1)
-
-in-range-requires : tie.Need-in-range-requires
-in-range-requires c κs = search needs
 
 returns-2 : tie.Need-returns-2
 returns-2 c = far-placed (c .before .before .before .before .before .before .args .place) (c .before .before .before .before .before .before .args .f) _ (c .before .before .before .before .before .look-up .ensures) _ (c .before .before .before .found .given .1) (sym (c .before .in-range .ensures) ∙ not-true _ (c .if1 .taken))
@@ -36,13 +27,4 @@ returns-5 c = side-placed (c .before .before .before .before .before .before .be
 pub placed-in-part-spec : {M : Type 1} → statement M
 placed-in-part-spec =
     tie.close
-    (tie.spec
-    look-up-requires
-    enum-known-found
-    enum-told
-    returns
-    in-range-requires
-    returns-2
-    returns-3
-    returns-4
-    returns-5)
+    (tie.spec (λ c κs. search needs) (λ c. search needs) enum-told returns (λ c κs. search needs) returns-2 returns-3 returns-4 returns-5)

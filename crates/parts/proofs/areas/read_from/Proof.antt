@@ -19,20 +19,8 @@ Inv-loop s part place at m₀ f₀ m f = Along view.Accepted view.Refused (seen 
 abbrev μ-loop : tie.MeasureT-loop
 μ-loop s part place at m₀ f₀ m f = length s - m .at
 
-begin-requires : tie.Need-begin-requires Inv-loop μ-loop
-begin-requires c κs = search needs
-
-no-shapes-requires : tie.Need-no-shapes-requires Inv-loop μ-loop
-no-shapes-requires c κs = search needs
-
 loop-holds : tie.Need-loop-holds Inv-loop μ-loop
 loop-holds c = along-begin (c .before .before .before .args .s .now) (c .before .before .before .args .at) (noShapes (c .before .before .before .args .part)) _ _ (c .before .begin .ensures) (c .no-shapes .ensures) refl
-
-take-step-requires : tie.Need-take-step-requires Inv-loop μ-loop
-take-step-requires c κs = search needs
-
-enum-known-step : tie.Need-enum-known-step Inv-loop μ-loop
-enum-known-step c = search needs
 
 see-requires : tie.Need-see-requires Inv-loop μ-loop
 see-requires c κs = omega (arith, along-room (c .before .before .before .before .loop .inv) _ _ (sym (c .before .before .before .take-step .ensures) ∙ c .before .step .given .1))
@@ -49,27 +37,11 @@ enum-told c = search needs
 returns : tie.Need-returns Inv-loop μ-loop
 returns c = along-done (c .before .before .before .loop .inv) (sym (c .before .before .take-step .ensures) ∙ c .enum-told .given .1)
 
-enum-known-step-2 : tie.Need-enum-known-step-2 Inv-loop μ-loop
-enum-known-step-2 c = search needs
-
 returns-2 : tie.Need-returns-2 Inv-loop μ-loop
 returns-2 c = along-refused (c .before .before .before .before .loop .inv) _ _ (sym (c .before .before .before .take-step .ensures) ∙ c .before .step2 .given .1)
 
 pub read-from-spec : {M : Type 1} → statement M
 read-from-spec =
     tie.close
-    (tie.spec
-    Inv-loop
-    μ-loop
-    begin-requires
-    no-shapes-requires
-    loop-holds
-    take-step-requires
-    enum-known-step
-    see-requires
-    loop-less
-    loop-again
-    enum-told
-    returns
-    enum-known-step-2
-    returns-2)
+    (tie.spec Inv-loop μ-loop (λ c κs. search needs) (λ c κs. search needs) loop-holds (λ c κs. search needs) (λ c. search needs) see-requires
+    loop-less loop-again enum-told returns (λ c. search needs) returns-2)

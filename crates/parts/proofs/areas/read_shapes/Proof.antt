@@ -11,18 +11,6 @@ returns : tie.Need-returns
 unfolding viewOf
 returns c = answer-long view.Accepted view.Refused (seen (c .before .before .args .place)) (noShapes (c .before .before .args .part)) (c .before .before .args .s .now) (c .if1 .taken)
 
-read-prolog-requires : tie.Need-read-prolog-requires
-read-prolog-requires c κs = search needs
-
-enum-known-prolog : tie.Need-enum-known-prolog
-enum-known-prolog c = search needs
-
-read-from-requires : tie.Need-read-from-requires
-read-from-requires c κs = search needs
-
-enum-known-prolog-2 : tie.Need-enum-known-prolog-2
-enum-known-prolog-2 c = search needs
-
 returns-2 : tie.Need-returns-2
 unfolding viewOf
 returns-2 c = answer-within view.Accepted view.Refused (seen (c .before .before .before .before .before .before .before .args .place)) (noShapes (c .before .before .before .before .before .before .before .args .part)) (c .before .before .before .before .before .before .before .args .s .now) _ _ (c .before .before .before .before .before .if1 .left) (sym (c .before .before .prolog .given .1) ∙ c .before .before .before .before .read-prolog .ensures) (c .read-from .ensures)
@@ -34,11 +22,4 @@ returns-3 c = answer-within view.Accepted view.Refused (seen (c .before .before 
 pub read-shapes-spec : {M : Type 1} → statement M
 read-shapes-spec =
     tie.close
-    (tie.spec
-    returns
-    read-prolog-requires
-    enum-known-prolog
-    read-from-requires
-    enum-known-prolog-2
-    returns-2
-    returns-3)
+    (tie.spec returns (λ c κs. search needs) (λ c. search needs) (λ c κs. search needs) (λ c. search needs) returns-2 returns-3)

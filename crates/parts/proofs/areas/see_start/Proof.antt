@@ -6,14 +6,8 @@ use Rattle.text.specs.Logic.{byte-le}
 use Rattle.parts.proofs.areas.see_start.Statement.{statement}
 use Rattle.parts.proofs.areas.see_start.Tie as tie
 
-cast-t4 : tie.Need-cast-t4
-cast-t4 c = search needs
-
 add-t5 : tie.Need-add-t5
 add-t5 c = record { fits = omega (arith, c .before .pre, byte-le (eqb (c .before .args .class) 2)) }
 
-returns : tie.Need-returns
-returns c = search needs
-
 pub see-start-spec : {M : Type 1} → statement M
-see-start-spec = tie.close (tie.spec cast-t4 add-t5 returns)
+see-start-spec = tie.close (tie.spec (λ c. search needs) add-t5 (λ c. search needs))

@@ -8,11 +8,8 @@ use Rattle.parts.proofs.areas.see_text.Tie as tie
 returns : tie.Need-returns
 returns c = other-seen (c .before .before .before .args .place) (c .before .before .before .args .class) (c .before .before .before .args .t .now) (c .before .before .before .args .f) (c .if1 .taken)
 
-shape-holds-requires : tie.Need-shape-holds-requires
-shape-holds-requires c κs = search needs
-
 returns-2 : tie.Need-returns-2
 returns-2 c = own-seen (c .before .before .before .before .before .before .args .place) (c .before .before .before .before .before .before .args .class) (c .before .before .before .before .before .before .args .t .now) (c .before .before .before .before .before .before .args .f) (c .before .before .before .if1 .left) _ (held (c .before .before .before .before .before .before .args .f .inside) _ _ (c .before .if2 .came) (λ h. (h .0 .taken, h .2 ∙ h .1 .ensures)) (λ h. (h .0 .left, h .1)))
 
 pub see-text-spec : {M : Type 1} → statement M
-see-text-spec = tie.close (tie.spec returns shape-holds-requires returns-2)
+see-text-spec = tie.close (tie.spec returns (λ c κs. search needs) returns-2)

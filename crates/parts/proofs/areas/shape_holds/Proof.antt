@@ -6,20 +6,8 @@ use Rattle.parts.proofs.Seeing.{polygon-shown, circle-shown, neither-sh
 use Rattle.parts.proofs.areas.shape_holds.Statement.{statement}
 use Rattle.parts.proofs.areas.shape_holds.Tie as tie
 
-polygon-holds-requires : tie.Need-polygon-holds-requires
-polygon-holds-requires c κs = search needs
-
-is-inside-requires : tie.Need-is-inside-requires
-is-inside-requires c κs = search needs
-
 returns : tie.Need-returns
 returns c = polygon-shown (c .before .before .before .before .args .place) (c .before .before .before .before .args .class) (c .before .before .before .before .args .t .now) (c .before .before .if1 .taken) _ (c .is-inside .ensures ∙ ap isInside (c .before .polygon-holds .ensures))
-
-circle-holds-requires : tie.Need-circle-holds-requires
-circle-holds-requires c κs = search needs
-
-is-inside-requires-2 : tie.Need-is-inside-requires-2
-is-inside-requires-2 c κs = search needs
 
 returns-2 : tie.Need-returns-2
 returns-2 c = circle-shown (c .before .before .before .before .before .args .place) (c .before .before .before .before .before .args .class) (c .before .before .before .before .before .args .t .now) (c .before .before .before .if1 .left) (c .before .before .if2 .taken) _ (c .is-inside2 .ensures ∙ ap isInside (c .before .circle-holds .ensures))
@@ -30,11 +18,4 @@ returns-3 c = neither-shown (c .before .before .before .args .place) (c .before 
 pub shape-holds-spec : {M : Type 1} → statement M
 shape-holds-spec =
     tie.close
-    (tie.spec
-    polygon-holds-requires
-    is-inside-requires
-    returns
-    circle-holds-requires
-    is-inside-requires-2
-    returns-2
-    returns-3)
+    (tie.spec (λ c κs. search needs) (λ c κs. search needs) returns (λ c κs. search needs) (λ c κs. search needs) returns-2 returns-3)

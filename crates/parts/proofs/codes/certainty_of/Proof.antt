@@ -5,14 +5,8 @@ use Rattle.sheet.specs.CodePlaces.{certaintyAt}
 use Rattle.parts.proofs.codes.certainty_of.Statement.{statement}
 use Rattle.parts.proofs.codes.certainty_of.Tie as tie
 
-code-of-requires : tie.Need-code-of-requires
-code-of-requires c κs = search needs
-
-certainty-at-requires : tie.Need-certainty-at-requires
-certainty-at-requires c κs = search needs
-
 returns : tie.Need-returns
 returns c = c .certainty-at .ensures ∙ ap certaintyAt (c .before .code-of .ensures)
 
 pub certainty-of-spec : {M : Type 1} → statement M
-certainty-of-spec = tie.close (tie.spec code-of-requires certainty-at-requires returns)
+certainty-of-spec = tie.close (tie.spec (λ c κs. search needs) (λ c κs. search needs) returns)

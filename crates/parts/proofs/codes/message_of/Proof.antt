@@ -5,14 +5,8 @@ use Rattle.sheet.specs.CodePlaces.{messageAt}
 use Rattle.parts.proofs.codes.message_of.Statement.{statement}
 use Rattle.parts.proofs.codes.message_of.Tie as tie
 
-code-of-requires : tie.Need-code-of-requires
-code-of-requires c κs = search needs
-
-message-at-requires : tie.Need-message-at-requires
-message-at-requires c κs = search needs
-
 returns : tie.Need-returns
 returns c = c .message-at .ensures ∙ ap messageAt (c .before .code-of .ensures)
 
 pub message-of-spec : {M : Type 1} → statement M
-message-of-spec = tie.close (tie.spec code-of-requires message-at-requires returns)
+message-of-spec = tie.close (tie.spec (λ c κs. search needs) (λ c κs. search needs) returns)

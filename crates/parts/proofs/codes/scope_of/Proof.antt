@@ -5,14 +5,8 @@ use Rattle.sheet.specs.CodePlaces.{scopeAt}
 use Rattle.parts.proofs.codes.scope_of.Statement.{statement}
 use Rattle.parts.proofs.codes.scope_of.Tie as tie
 
-code-of-requires : tie.Need-code-of-requires
-code-of-requires c κs = search needs
-
-scope-at-requires : tie.Need-scope-at-requires
-scope-at-requires c κs = search needs
-
 returns : tie.Need-returns
 returns c = c .scope-at .ensures ∙ ap scopeAt (c .before .code-of .ensures)
 
 pub scope-of-spec : {M : Type 1} → statement M
-scope-of-spec = tie.close (tie.spec code-of-requires scope-at-requires returns)
+scope-of-spec = tie.close (tie.spec (λ c κs. search needs) (λ c κs. search needs) returns)

@@ -5,14 +5,8 @@ use Rattle.sheet.specs.CodePlaces.{statusAt}
 use Rattle.parts.proofs.codes.status_of.Statement.{statement}
 use Rattle.parts.proofs.codes.status_of.Tie as tie
 
-code-of-requires : tie.Need-code-of-requires
-code-of-requires c κs = search needs
-
-status-at-requires : tie.Need-status-at-requires
-status-at-requires c κs = search needs
-
 returns : tie.Need-returns
 returns c = c .status-at .ensures ∙ ap statusAt (c .before .code-of .ensures)
 
 pub status-of-spec : {M : Type 1} → statement M
-status-of-spec = tie.close (tie.spec code-of-requires status-at-requires returns)
+status-of-spec = tie.close (tie.spec (λ c κs. search needs) (λ c κs. search needs) returns)

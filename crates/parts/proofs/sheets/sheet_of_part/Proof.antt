@@ -4,32 +4,14 @@ use Rattle.parts.proofs.Drawing.{not-drawn, none-drawn, part-within, fa
 use Rattle.parts.proofs.sheets.sheet_of_part.Statement.{statement}
 use Rattle.parts.proofs.sheets.sheet_of_part.Tie as tie
 
-look-up-requires : tie.Need-look-up-requires
-look-up-requires c κs = search needs
-
-enum-known-found : tie.Need-enum-known-found
-enum-known-found c = search needs
-
 enum-told : tie.Need-enum-told
 enum-told c = search needs
 
 returns : tie.Need-returns
 returns c = not-drawn (c .before .before .before .before .args .s .now) (c .before .before .before .before .args .f) _ (c .before .before .look-up .ensures) (c .enum-told .given .1)
 
-sheet-with-requires : tie.Need-sheet-with-requires
-sheet-with-requires c κs = search needs
-
 returns-2 : tie.Need-returns-2
 returns-2 c = none-drawn (c .before .before .before .before .before .before .before .args .s .now) (c .before .before .before .before .before .before .before .args .f) _ (c .before .before .before .before .before .look-up .ensures) _ (c .before .before .before .found .given .1) (c .before .if1 .taken) _ (c .sheet-with .ensures)
-
-lasts-of-requires : tie.Need-lasts-of-requires
-lasts-of-requires c κs = search needs
-
-enum-known-lasts : tie.Need-enum-known-lasts
-enum-known-lasts c = search needs
-
-enum-told-2 : tie.Need-enum-told-2
-enum-told-2 c = search needs
 
 returns-3 : tie.Need-returns-3
 returns-3 c = far-drawn (c .before .before .before .before .before .before .before .before .before .args .s .now) (c .before .before .before .before .before .before .before .before .before .args .f) _ (c .before .before .before .before .before .before .before .look-up .ensures) _ (c .before .before .before .before .before .found .given .1) (c .before .before .before .if1 .left) _ (c .before .before .lasts-of .ensures) (c .enum-told2 .given .1)
@@ -37,26 +19,11 @@ returns-3 c = far-drawn (c .before .before .before .before .before .before .befo
 part-of-requires : tie.Need-part-of-requires
 part-of-requires c κs = (part-within (c .before .before .before .before .before .before .before .before .before .before .args .s .now) (c .before .before .before .before .before .before .before .before .before .before .args .f) _ (c .before .before .before .before .before .before .before .before .look-up .ensures) _ (c .before .before .before .before .before .before .found .given .1) (c .before .before .before .before .if1 .left), c .before .before .before .before .before .before .before .before .before .before .pre)
 
-sheet-with-requires-2 : tie.Need-sheet-with-requires-2
-sheet-with-requires-2 c κs = search needs
-
 returns-4 : tie.Need-returns-4
 returns-4 c = part-drawn (c .before .before .before .before .before .before .before .before .before .before .before .before .args .s .now) (c .before .before .before .before .before .before .before .before .before .before .before .before .args .f) _ (c .before .before .before .before .before .before .before .before .before .before .look-up .ensures) _ (c .before .before .before .before .before .before .before .before .found .given .1) (c .before .before .before .before .before .before .if1 .left) _ (c .before .before .before .before .before .lasts-of .ensures) _ _ _ (c .before .before .before .lasts .given .1) (c .before .part-of .ensures) (c .sheet-with2 .ensures)
 
 pub sheet-of-part-spec : {M : Type 1} → statement M
 sheet-of-part-spec =
     tie.close
-    (tie.spec
-    look-up-requires
-    enum-known-found
-    enum-told
-    returns
-    sheet-with-requires
-    returns-2
-    lasts-of-requires
-    enum-known-lasts
-    enum-told-2
-    returns-3
-    part-of-requires
-    sheet-with-requires-2
-    returns-4)
+    (tie.spec (λ c κs. search needs) (λ c. search needs) enum-told returns (λ c κs. search needs) returns-2 (λ c κs. search needs)
+    (λ c. search needs) (λ c. search needs) returns-3 part-of-requires (λ c κs. search needs) returns-4)

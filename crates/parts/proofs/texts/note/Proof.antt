@@ -8,27 +8,6 @@ use Rattle.parts.proofs.texts.note.Tie as tie
 enum-told : tie.Need-enum-told
 enum-told c = search needs
 
-enum-known-event : tie.Need-enum-known-event
-enum-known-event c = search needs
-
-note-start-requires : tie.Need-note-start-requires
-note-start-requires c κs = search needs
-
-enum-known-event-2 : tie.Need-enum-known-event-2
-enum-known-event-2 c = search needs
-
-part-requires : tie.Need-part-requires
-part-requires c κs = search needs
-
-note-head-requires : tie.Need-note-head-requires
-note-head-requires c κs = search needs
-
-note-own-requires : tie.Need-note-own-requires
-note-own-requires c κs = search needs
-
-enum-known-event-3 : tie.Need-enum-known-event-3
-enum-known-event-3 c = search needs
-
 returns : tie.Need-returns
 unfolding gather
 returns c = rw (c .enum-told .given .1)
@@ -46,16 +25,5 @@ returns-4 c = rw (c .before .event3 .given .1)
 pub note-spec : {M : Type 1} → statement M
 note-spec =
     tie.close
-    (tie.spec
-    enum-told
-    enum-known-event
-    note-start-requires
-    enum-known-event-2
-    part-requires
-    note-head-requires
-    note-own-requires
-    enum-known-event-3
-    returns
-    returns-2
-    returns-3
-    returns-4)
+    (tie.spec enum-told (λ c. search needs) (λ c κs. search needs) (λ c. search needs) (λ c κs. search needs) (λ c κs. search needs)
+    (λ c κs. search needs) (λ c. search needs) returns returns-2 returns-3 returns-4)

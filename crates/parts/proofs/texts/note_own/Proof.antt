@@ -6,9 +6,6 @@ use Rattle.parts.proofs.Noting.{takes-range, own-noted}
 use Rattle.parts.proofs.texts.note_own.Statement.{statement}
 use Rattle.parts.proofs.texts.note_own.Tie as tie
 
-add-if1 : tie.Need-add-if1
-add-if1 c = search needs
-
 sub-span : tie.Need-sub-span
 sub-span c = takes-range (eqb (c .before .before .args .f .total) (c .before .before .args .f .part)) 25 (c .before .before .args .class) (c .if1 .taken) .0
 
@@ -25,5 +22,4 @@ returns-2 : tie.Need-returns-2
 returns-2 c = own-noted (c .before .before .args .f) (c .before .before .args .class) (c .before .before .args .span) _ (c .if1 .left)
 
 pub note-own-spec : {M : Type 1} → statement M
-note-own-spec =
-    tie.close (tie.spec add-if1 sub-span mul-span element-set-from-span returns returns-2)
+note-own-spec = tie.close (tie.spec (λ c. search needs) sub-span mul-span element-set-from-span returns returns-2)

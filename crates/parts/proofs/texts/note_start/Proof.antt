@@ -6,14 +6,8 @@ use Rattle.text.specs.Logic.{byte-le}
 use Rattle.parts.proofs.texts.note_start.Statement.{statement}
 use Rattle.parts.proofs.texts.note_start.Tie as tie
 
-cast-next : tie.Need-cast-next
-cast-next c = search needs
-
 add-next : tie.Need-add-next
 add-next c = record { fits = omega (arith, c .before .pre, byte-le (eqb (c .before .args .class) 2)) }
 
-returns : tie.Need-returns
-returns c = search needs
-
 pub note-start-spec : {M : Type 1} → statement M
-note-start-spec = tie.close (tie.spec cast-next add-next returns)
+note-start-spec = tie.close (tie.spec (λ c. search needs) add-next (λ c. search needs))

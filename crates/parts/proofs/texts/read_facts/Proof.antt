@@ -6,27 +6,9 @@ use Rattle.parts.proofs.Along.{answer-long, answer-within}
 use Rattle.parts.proofs.texts.read_facts.Statement.{statement}
 use Rattle.parts.proofs.texts.read_facts.Tie as tie
 
-refused-requires : tie.Need-refused-requires
-refused-requires c κs = search needs
-
 returns : tie.Need-returns
 unfolding readingOf
 returns c = c .refused .ensures ∙ answer-long acceptedWith (refusedWith (c .before .before .before .args .part)) noted (noFacts (c .before .before .before .args .part)) (c .before .before .before .args .s .now) (c .before .if1 .taken)
-
-read-prolog-requires : tie.Need-read-prolog-requires
-read-prolog-requires c κs = search needs
-
-enum-known-prolog : tie.Need-enum-known-prolog
-enum-known-prolog c = search needs
-
-read-from-requires : tie.Need-read-from-requires
-read-from-requires c κs = search needs
-
-enum-known-prolog-2 : tie.Need-enum-known-prolog-2
-enum-known-prolog-2 c = search needs
-
-refused-requires-2 : tie.Need-refused-requires-2
-refused-requires-2 c κs = search needs
 
 returns-2 : tie.Need-returns-2
 unfolding readingOf
@@ -39,13 +21,5 @@ returns-3 c = answer-within acceptedWith (refusedWith (c .before .before .before
 pub read-facts-spec : {M : Type 1} → statement M
 read-facts-spec =
     tie.close
-    (tie.spec
-    refused-requires
-    returns
-    read-prolog-requires
-    enum-known-prolog
-    read-from-requires
-    enum-known-prolog-2
-    refused-requires-2
-    returns-2
-    returns-3)
+    (tie.spec (λ c κs. search needs) returns (λ c κs. search needs) (λ c. search needs) (λ c κs. search needs) (λ c. search needs)
+    (λ c κs. search needs) returns-2 returns-3)

@@ -18,20 +18,8 @@ Inv-loop s part at m₀ f₀ m f = Along acceptedWith (refusedWith part) noted (
 abbrev μ-loop : tie.MeasureT-loop
 μ-loop s part at m₀ f₀ m f = length s - m .at
 
-begin-requires : tie.Need-begin-requires Inv-loop μ-loop
-begin-requires c κs = search needs
-
-no-facts-requires : tie.Need-no-facts-requires Inv-loop μ-loop
-no-facts-requires c κs = search needs
-
 loop-holds : tie.Need-loop-holds Inv-loop μ-loop
 loop-holds c = along-begin (c .before .before .before .args .s .now) (c .before .before .before .args .at) (noFacts (c .before .before .before .args .part)) _ _ (c .before .begin .ensures) (c .no-facts .ensures) refl
-
-take-step-requires : tie.Need-take-step-requires Inv-loop μ-loop
-take-step-requires c κs = search needs
-
-enum-known-step : tie.Need-enum-known-step Inv-loop μ-loop
-enum-known-step c = search needs
 
 note-requires : tie.Need-note-requires Inv-loop μ-loop
 note-requires c κs = omega (arith, along-room (c .before .before .before .before .loop .inv) _ _ (sym (c .before .before .before .take-step .ensures) ∙ c .before .step .given .1))
@@ -48,31 +36,11 @@ enum-told c = search needs
 returns : tie.Need-returns Inv-loop μ-loop
 returns c = along-done (c .before .before .before .loop .inv) (sym (c .before .before .take-step .ensures) ∙ c .enum-told .given .1)
 
-enum-known-step-2 : tie.Need-enum-known-step-2 Inv-loop μ-loop
-enum-known-step-2 c = search needs
-
-refused-requires : tie.Need-refused-requires Inv-loop μ-loop
-refused-requires c κs = search needs
-
 returns-2 : tie.Need-returns-2 Inv-loop μ-loop
 returns-2 c = c .refused .ensures ∙ along-refused (c .before .before .before .before .before .loop .inv) _ _ (sym (c .before .before .before .before .take-step .ensures) ∙ c .before .before .step2 .given .1)
 
 pub read-from-spec : {M : Type 1} → statement M
 read-from-spec =
     tie.close
-    (tie.spec
-    Inv-loop
-    μ-loop
-    begin-requires
-    no-facts-requires
-    loop-holds
-    take-step-requires
-    enum-known-step
-    note-requires
-    loop-less
-    loop-again
-    enum-told
-    returns
-    enum-known-step-2
-    refused-requires
-    returns-2)
+    (tie.spec Inv-loop μ-loop (λ c κs. search needs) (λ c κs. search needs) loop-holds (λ c κs. search needs) (λ c. search needs) note-requires
+    loop-less loop-again enum-told returns (λ c. search needs) (λ c κs. search needs) returns-2)

@@ -3,11 +3,5 @@ use borrow.Author.Needs.{needs}
 use Rattle.parts.proofs.texts.refused.Statement.{statement}
 use Rattle.parts.proofs.texts.refused.Tie as tie
 
-no-facts-requires : tie.Need-no-facts-requires
-no-facts-requires c κs = search needs
-
-returns : tie.Need-returns
-returns c = rw (c .no-facts .ensures)
-
 pub refused-spec : {M : Type 1} → statement M
-refused-spec = tie.close (tie.spec no-facts-requires returns)
+refused-spec = tie.close (tie.spec (λ c κs. search needs) (λ c. rw (c .no-facts .ensures)))

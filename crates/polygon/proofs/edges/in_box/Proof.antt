@@ -4,14 +4,8 @@ use Rattle.polygon.proofs.Geometry.{box-is}
 use Rattle.polygon.proofs.edges.in_box.Statement.{statement}
 use Rattle.polygon.proofs.edges.in_box.Tie as tie
 
-between-requires : tie.Need-between-requires
-between-requires c κs = search needs
-
-between-requires-2 : tie.Need-between-requires-2
-between-requires-2 c κs = search needs
-
 returns : tie.Need-returns
 returns c = let g = c .before .before .before .before .before .before .before .before .args in box-is (g .a) (g .b) (g .p) _ _ (c .before .before .before .before .between .ensures) (c .between2 .ensures) (c .before .before .before .before .before .before .before .struct-told .given .0 .1) (c .before .before .before .before .before .before .struct-told2 .given .0 .1) (c .before .before .before .before .before .struct-told3 .given .0 .1) (c .before .before .before .struct-told4 .given .1 .0 .1) (c .before .before .struct-told5 .given .1 .0 .1) (c .before .struct-told6 .given .1 .0 .1)
 
 pub in-box-spec : {M : Type 1} → statement M
-in-box-spec = tie.close (tie.spec between-requires between-requires-2 returns)
+in-box-spec = tie.close (tie.spec (λ c κs. search needs) (λ c κs. search needs) returns)

@@ -5,11 +5,8 @@ use Rattle.integers.specs.Magnitude.{less-signed}
 use Rattle.polygon.proofs.edges.is_less.Statement.{statement}
 use Rattle.polygon.proofs.edges.is_less.Tie as tie
 
-less-by-requires : tie.Need-less-by-requires
-less-by-requires c κs = search needs
-
 returns : tie.Need-returns
 returns c = let g = c .before .args in c .less-by .ensures ∙ less-signed (g .p .negative) (g .p .magnitude) (g .q .negative) (g .q .magnitude)
 
 pub is-less-spec : {M : Type 1} → statement M
-is-less-spec = tie.close (tie.spec less-by-requires returns)
+is-less-spec = tie.close (tie.spec (λ c κs. search needs) returns)

@@ -4,35 +4,11 @@ use Rattle.polygon.proofs.Geometry.{judged}
 use Rattle.polygon.proofs.edges.judge.Statement.{statement}
 use Rattle.polygon.proofs.edges.judge.Tie as tie
 
-east-of-requires : tie.Need-east-of-requires
-east-of-requires c κs = search needs
-
-north-of-requires : tie.Need-north-of-requires
-north-of-requires c κs = search needs
-
-is-less-requires : tie.Need-is-less-requires
-is-less-requires c κs = search needs
-
-is-less-requires-2 : tie.Need-is-less-requires-2
-is-less-requires-2 c κs = search needs
-
-in-box-requires : tie.Need-in-box-requires
-in-box-requires c κs = search needs
-
-is-crossed-requires : tie.Need-is-crossed-requires
-is-crossed-requires c κs = search needs
-
 returns : tie.Need-returns
 returns c = let g = c .before .before .before .before .before .before .before .before .before .args in judged (g .a) (g .b) (g .p) _ _ _ _ _ _ (c .before .before .before .before .before .before .before .before .east-of .ensures) (c .before .before .before .before .before .before .before .north-of .ensures) (c .before .before .before .before .before .before .is-less .ensures) (c .before .before .before .before .before .is-less2 .ensures) (c .before .before .before .before .in-box .ensures) (c .is-crossed .ensures) (c .before .before .before .struct-told .given .0 .1) (c .before .before .struct-told2 .given .0 .1) (c .before .struct-told3 .given .0 .1)
 
 pub judge-spec : {M : Type 1} → statement M
 judge-spec =
     tie.close
-    (tie.spec
-    east-of-requires
-    north-of-requires
-    is-less-requires
-    is-less-requires-2
-    in-box-requires
-    is-crossed-requires
-    returns)
+    (tie.spec (λ c κs. search needs) (λ c κs. search needs) (λ c κs. search needs) (λ c κs. search needs) (λ c κs. search needs)
+    (λ c κs. search needs) returns)

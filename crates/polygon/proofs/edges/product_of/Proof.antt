@@ -4,12 +4,6 @@ use Rattle.polygon.proofs.Signs.{product-fits, product-is}
 use Rattle.polygon.proofs.edges.product_of.Statement.{statement}
 use Rattle.polygon.proofs.edges.product_of.Tie as tie
 
-distance-requires : tie.Need-distance-requires
-distance-requires c κs = search needs
-
-distance-requires-2 : tie.Need-distance-requires-2
-distance-requires-2 c κs = search needs
-
 mul-magnitude : tie.Need-mul-magnitude
 mul-magnitude c = let f = c .before .before .fits in product-fits _ _ _ _ (f .a) (f .b) (f .c) (f .d) _ _ (c .before .distance .ensures) (c .distance2 .ensures)
 
@@ -17,4 +11,4 @@ returns : tie.Need-returns
 returns c = let f = c .before .before .fits in product-is _ _ _ _ (f .a) (f .b) (f .c) (f .d) _ _ (c .before .distance .ensures) (c .distance2 .ensures)
 
 pub product-of-spec : {M : Type 1} → statement M
-product-of-spec = tie.close (tie.spec distance-requires distance-requires-2 mul-magnitude returns)
+product-of-spec = tie.close (tie.spec (λ c κs. search needs) (λ c κs. search needs) mul-magnitude returns)

@@ -5,20 +5,8 @@ use Rattle.polygon.proofs.Tokens.{read-end, read-none, read-led}
 use Rattle.polygon.proofs.pairs.next_pair.Statement.{statement}
 use Rattle.polygon.proofs.pairs.next_pair.Tie as tie
 
-skip-space-requires : tie.Need-skip-space-requires
-skip-space-requires c κs = search needs
-
 returns : tie.Need-returns
 returns c = read-end _ _ _ (c .before .skip-space .ensures) (c .if1 .taken)
-
-leading-pair-requires : tie.Need-leading-pair-requires
-leading-pair-requires c κs = search needs
-
-enum-known-pair : tie.Need-enum-known-pair
-enum-known-pair c = search needs
-
-ended-requires : tie.Need-ended-requires
-ended-requires c κs = search needs
 
 enum-told : tie.Need-enum-told
 enum-told c = search needs
@@ -32,12 +20,4 @@ returns-3 c = read-none _ _ _ (c .before .before .before .before .skip-space .en
 pub next-pair-spec : {M : Type 1} → statement M
 next-pair-spec =
     tie.close
-    (tie.spec
-    skip-space-requires
-    returns
-    leading-pair-requires
-    enum-known-pair
-    ended-requires
-    enum-told
-    returns-2
-    returns-3)
+    (tie.spec (λ c κs. search needs) returns (λ c κs. search needs) (λ c. search needs) (λ c κs. search needs) enum-told returns-2 returns-3)

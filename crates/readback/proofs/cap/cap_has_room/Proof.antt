@@ -10,14 +10,8 @@ use Rattle.readback.proofs.cap.cap_has_room.Tie as tie
 returns : tie.Need-returns
 returns c = sym (le-leb _ _ (le-trans (c .before .before .before .pre) (c .if1 .taken)))
 
-slice-aggregate-put-cap : tie.Need-slice-aggregate-put-cap
-slice-aggregate-put-cap c = refl
-
-put-cap-requires : tie.Need-put-cap-requires
-put-cap-requires c κs = c .before .before .before .before .pre
-
 returns-2 : tie.Need-returns-2
 returns-2 c = ap (λ (n : ℕ). leb n (c .before .before .before .before .before .before .args .room)) (c .before .put-cap .ensures .size)
 
 pub cap-has-room-spec : {M : Type 1} → statement M
-cap-has-room-spec = tie.close (tie.spec returns slice-aggregate-put-cap put-cap-requires returns-2)
+cap-has-room-spec = tie.close (tie.spec returns (λ c. refl) (λ c κs. c .before .before .before .before .pre) returns-2)

@@ -44,18 +44,6 @@ room₂ e = room-left (s₁ e ++ s₂ e) (s₃ e) (room₃ e)
 room₁ : (e : tie.After-scope-code) → length (s₁ e) ≤ length (e .before .before .before .before .before .before .args .dst .now)
 room₁ e = room-left (s₁ e) (s₂ e) (room₂ e)
 
-message-code-requires : tie.Need-message-code-requires
-message-code-requires c κs = tt
-
-status-code-requires : tie.Need-status-code-requires
-status-code-requires c κs = tt
-
-scope-code-requires : tie.Need-scope-code-requires
-scope-code-requires c κs = tt
-
-slice-aggregate-put-codes : tie.Need-slice-aggregate-put-codes
-slice-aggregate-put-codes c = refl
-
 put-codes-requires : tie.Need-put-codes-requires
 put-codes-requires c κs = let e = c .before .before in (coded-known (e .before .before .message-code .ensures) (message-coded (e .before .before .before .before .before .before .args .facts .message)), coded-known (e .before .status-code .ensures) (status-coded (e .before .before .before .before .before .before .args .facts .status)), coded-known (e .scope-code .ensures) (scope-coded (e .before .before .before .before .before .before .args .facts .scope)), room₁ e)
 
@@ -64,15 +52,6 @@ sub-put-both c =
     let e = c .before .before .before .before .before in
     let p₁ = c .before .before .put-codes .ensures in
     put-in _ _ p₁ (room₁ e)
-
-part-put-both-start : tie.Need-part-put-both-start
-part-put-both-start c = sub-put-both c
-
-part-put-both-end : tie.Need-part-put-both-end
-part-put-both-end c = le-refl _
-
-slice-aggregate-put-both : tie.Need-slice-aggregate-put-both
-slice-aggregate-put-both c = refl
 
 put-both-requires : tie.Need-put-both-requires
 put-both-requires c κs =
@@ -92,15 +71,6 @@ sub-put-both-2 c =
     let p₁ = c .before .before .before .before .before .before .before .put-codes .ensures in
     let p₂ = put-then _ _ p₁ (s₂ e) (room₂ e) (c .before .before .put-both .ensures) in
     put-in _ _ p₂ (room₂ e)
-
-part-put-both-start-2 : tie.Need-part-put-both-start-2
-part-put-both-start-2 c = sub-put-both-2 c
-
-part-put-both-end-2 : tie.Need-part-put-both-end-2
-part-put-both-end-2 c = le-refl _
-
-slice-aggregate-put-both-2 : tie.Need-slice-aggregate-put-both-2
-slice-aggregate-put-both-2 c = refl
 
 put-both-requires-2 : tie.Need-put-both-requires-2
 put-both-requires-2 c κs =
@@ -123,12 +93,6 @@ sub-put-parts c =
     let p₂ = put-then _ _ p₁ (s₂ e) (room₂ e) (c .before .before .before .before .before .before .before .put-both .ensures) in
     let p₃ = put-then _ _ p₂ (s₃ e) (room₃ e) (c .before .before .put-both2 .ensures) in
     put-in _ _ p₃ (room₃ e)
-
-part-put-parts-start : tie.Need-part-put-parts-start
-part-put-parts-start c = sub-put-parts c
-
-part-put-parts-end : tie.Need-part-put-parts-end
-part-put-parts-end c = le-refl _
 
 put-parts-requires : tie.Need-put-parts-requires
 put-parts-requires c κs =
@@ -154,15 +118,6 @@ sub-put c =
     let p₃ = put-then _ _ p₂ (s₃ e) (room₃ e) (c .before .before .before .before .before .before .put-both2 .ensures) in
     let p₄ = put-then _ _ p₃ (s₄ e) (room₄ e) (c .before .before .put-parts .ensures) in
     put-in _ _ p₄ (room₄ e)
-
-part-put-start : tie.Need-part-put-start
-part-put-start c = sub-put c
-
-part-put-end : tie.Need-part-put-end
-part-put-end c = le-refl _
-
-slice-aggregate-put : tie.Need-slice-aggregate-put
-slice-aggregate-put c = refl
 
 put-requires : tie.Need-put-requires
 put-requires c κs =
@@ -205,34 +160,7 @@ returns c =
 pub put-cap-spec : {M : Type 1} → statement M
 put-cap-spec =
     tie.close
-    (tie.spec
-    message-code-requires
-    status-code-requires
-    scope-code-requires
-    slice-aggregate-put-codes
-    put-codes-requires
-    sub-put-both
-    part-put-both-start
-    part-put-both-end
-    slice-aggregate-put-both
-    put-both-requires
-    add-b
-    sub-put-both-2
-    part-put-both-start-2
-    part-put-both-end-2
-    slice-aggregate-put-both-2
-    put-both-requires-2
-    add-c
-    sub-put-parts
-    part-put-parts-start
-    part-put-parts-end
-    put-parts-requires
-    add-d
-    sub-put
-    part-put-start
-    part-put-end
-    slice-aggregate-put
-    put-requires
-    add-result
-    same-length
-    returns)
+    (tie.spec (λ c κs. tt) (λ c κs. tt) (λ c κs. tt) (λ c. refl) put-codes-requires sub-put-both (λ c. sub-put-both c) (λ c. le-refl _) (λ c. refl)
+    put-both-requires add-b sub-put-both-2 (λ c. sub-put-both-2 c) (λ c. le-refl _) (λ c. refl) put-both-requires-2 add-c sub-put-parts
+    (λ c. sub-put-parts c) (λ c. le-refl _) put-parts-requires add-d sub-put (λ c. sub-put c) (λ c. le-refl _) (λ c. refl) put-requires add-result
+    same-length returns)

@@ -45,35 +45,11 @@ room₂ e = room-left (s₁ e ++ s₂ e) (s₃ e) (room₃ e)
 room₁ : (e : tie.After-certainty-code) → length (s₁ e) ≤ length (e .before .before .before .before .args .dst .now)
 room₁ e = room-left (s₁ e) (s₂ e) (room₂ e)
 
-urgency-code-requires : tie.Need-urgency-code-requires
-urgency-code-requires c κs = tt
-
-severity-code-requires : tie.Need-severity-code-requires
-severity-code-requires c κs = tt
-
-certainty-code-requires : tie.Need-certainty-code-requires
-certainty-code-requires c κs = tt
-
-slice-aggregate-put-byte : tie.Need-slice-aggregate-put-byte
-slice-aggregate-put-byte c = refl
-
-put-byte-requires : tie.Need-put-byte-requires
-put-byte-requires c κs = room₁ (c .before .before)
-
 sub-put-byte : tie.Need-sub-put-byte
 sub-put-byte c =
     let e = c .before .before .before .before .before in
     let p₁ = c .before .before .put-byte .ensures in
     put-in _ _ p₁ (room₁ e)
-
-part-put-byte-start : tie.Need-part-put-byte-start
-part-put-byte-start c = sub-put-byte c
-
-part-put-byte-end : tie.Need-part-put-byte-end
-part-put-byte-end c = le-refl _
-
-slice-aggregate-put-byte-2 : tie.Need-slice-aggregate-put-byte-2
-slice-aggregate-put-byte-2 c = refl
 
 put-byte-requires-2 : tie.Need-put-byte-requires-2
 put-byte-requires-2 c κs =
@@ -93,15 +69,6 @@ sub-put-codes c =
     let p₁ = c .before .before .before .before .before .before .before .put-byte .ensures in
     let p₂ = put-then _ _ p₁ (s₂ e) (room₂ e) (c .before .before .put-byte2 .ensures) in
     put-in _ _ p₂ (room₂ e)
-
-part-put-codes-start : tie.Need-part-put-codes-start
-part-put-codes-start c = sub-put-codes c
-
-part-put-codes-end : tie.Need-part-put-codes-end
-part-put-codes-end c = le-refl _
-
-slice-aggregate-put-codes : tie.Need-slice-aggregate-put-codes
-slice-aggregate-put-codes c = refl
 
 put-codes-requires : tie.Need-put-codes-requires
 put-codes-requires c κs =
@@ -124,15 +91,6 @@ sub-put c =
     let p₂ = put-then _ _ p₁ (s₂ e) (room₂ e) (c .before .before .before .before .before .before .before .put-byte2 .ensures) in
     let p₃ = put-then _ _ p₂ (s₃ e) (room₃ e) (c .before .before .put-codes .ensures) in
     put-in _ _ p₃ (room₃ e)
-
-part-put-start : tie.Need-part-put-start
-part-put-start c = sub-put c
-
-part-put-end : tie.Need-part-put-end
-part-put-end c = le-refl _
-
-slice-aggregate-put : tie.Need-slice-aggregate-put
-slice-aggregate-put c = refl
 
 put-requires : tie.Need-put-requires
 put-requires c κs =
@@ -158,12 +116,6 @@ sub-put-lasting c =
     let p₃ = put-then _ _ p₂ (s₃ e) (room₃ e) (c .before .before .before .before .before .before .before .put-codes .ensures) in
     let p₄ = put-then _ _ p₃ (s₄ e) (room₄ e) (c .before .before .put .ensures) in
     put-in _ _ p₄ (room₄ e)
-
-part-put-lasting-start : tie.Need-part-put-lasting-start
-part-put-lasting-start c = sub-put-lasting c
-
-part-put-lasting-end : tie.Need-part-put-lasting-end
-part-put-lasting-end c = le-refl _
 
 put-lasting-requires : tie.Need-put-lasting-requires
 put-lasting-requires c κs =
@@ -206,34 +158,7 @@ returns c =
 pub put-part-spec : {M : Type 1} → statement M
 put-part-spec =
     tie.close
-    (tie.spec
-    urgency-code-requires
-    severity-code-requires
-    certainty-code-requires
-    slice-aggregate-put-byte
-    put-byte-requires
-    sub-put-byte
-    part-put-byte-start
-    part-put-byte-end
-    slice-aggregate-put-byte-2
-    put-byte-requires-2
-    add-b
-    sub-put-codes
-    part-put-codes-start
-    part-put-codes-end
-    slice-aggregate-put-codes
-    put-codes-requires
-    add-c
-    sub-put
-    part-put-start
-    part-put-end
-    slice-aggregate-put
-    put-requires
-    add-d
-    sub-put-lasting
-    part-put-lasting-start
-    part-put-lasting-end
-    put-lasting-requires
-    add-result
-    same-length
-    returns)
+    (tie.spec (λ c κs. tt) (λ c κs. tt) (λ c κs. tt) (λ c. refl) (λ c κs. room₁ (c .before .before)) sub-put-byte (λ c. sub-put-byte c)
+    (λ c. le-refl _) (λ c. refl) put-byte-requires-2 add-b sub-put-codes (λ c. sub-put-codes c) (λ c. le-refl _) (λ c. refl) put-codes-requires add-c
+    sub-put (λ c. sub-put c) (λ c. le-refl _) (λ c. refl) put-requires add-d sub-put-lasting (λ c. sub-put-lasting c) (λ c. le-refl _)
+    put-lasting-requires add-result same-length returns)

@@ -4,21 +4,6 @@ use Rattle.readback.proofs.CodeTable.{text, starts, starts-order, start
 use Rattle.readback.proofs.codes.put_code.Statement.{statement}
 use Rattle.readback.proofs.codes.put_code.Tie as tie
 
-mul-start : tie.Need-mul-start
-mul-start c = search needs
-
-array-read-start : tie.Need-array-read-start
-array-read-start c = search needs
-
-add-end : tie.Need-add-end
-add-end c = search needs
-
-mul-end : tie.Need-mul-end
-mul-end c = search needs
-
-array-read-end : tie.Need-array-read-end
-array-read-end c = search needs
-
 sub-put-both : tie.Need-sub-put-both
 unfolding text starts
 sub-put-both c = let a = c .before .before .before in starts-order (a .args .w) (a .pre .0)
@@ -35,9 +20,6 @@ put-both-requires : tie.Need-put-both-requires
 unfolding text starts
 put-both-requires c κs = let a = c .before .before .before .before .before in rw (part-same (a .args .w) (a .pre .0)) (a .pre .1)
 
-same-length : tie.Need-same-length
-same-length c = search needs
-
 returns : tie.Need-returns
 unfolding text starts
 returns c = let a = c .before .before .before .before .before .before .before .before in rw (part-same (a .args .w) (a .pre .0)) at (c .before .before .put-both .ensures)
@@ -45,15 +27,5 @@ returns c = let a = c .before .before .before .before .before .before .before .b
 pub put-code-spec : {M : Type 1} → statement M
 put-code-spec =
     tie.close
-    (tie.spec
-    mul-start
-    array-read-start
-    add-end
-    mul-end
-    array-read-end
-    sub-put-both
-    part-put-both-start
-    part-put-both-end
-    put-both-requires
-    same-length
-    returns)
+    (tie.spec (λ c. search needs) (λ c. search needs) (λ c. search needs) (λ c. search needs) (λ c. search needs) sub-put-both part-put-both-start
+    part-put-both-end put-both-requires (λ c. search needs) returns)

@@ -30,23 +30,11 @@ room₂ e = room-left (s₁ e ++ s₂ e) (s₃ e) (room₃ e)
 room₁ : (e : tie.Start) → length (s₁ e) ≤ length (e .args .dst .now)
 room₁ e = room-left (s₁ e) (s₂ e) (room₂ e)
 
-put-code-requires : tie.Need-put-code-requires
-put-code-requires c κs = let e = c .before .before .before in (e .pre .0, room₁ e)
-
 sub-put-code : tie.Need-sub-put-code
 sub-put-code c =
     let e = c .before .before .before .before .before .before in
     let p₁ = c .before .before .put-code .ensures in
     put-in _ _ p₁ (room₁ e)
-
-part-put-code-start : tie.Need-part-put-code-start
-part-put-code-start c = sub-put-code c
-
-part-put-code-end : tie.Need-part-put-code-end
-part-put-code-end c = le-refl _
-
-slice-aggregate-put-code : tie.Need-slice-aggregate-put-code
-slice-aggregate-put-code c = refl
 
 put-code-requires-2 : tie.Need-put-code-requires-2
 put-code-requires-2 c κs =
@@ -66,15 +54,6 @@ sub-put-code-2 c =
     let p₁ = c .before .before .before .before .before .before .before .put-code .ensures in
     let p₂ = put-then _ _ p₁ (s₂ e) (room₂ e) (c .before .before .put-code2 .ensures) in
     put-in _ _ p₂ (room₂ e)
-
-part-put-code-start-2 : tie.Need-part-put-code-start-2
-part-put-code-start-2 c = sub-put-code-2 c
-
-part-put-code-end-2 : tie.Need-part-put-code-end-2
-part-put-code-end-2 c = le-refl _
-
-slice-aggregate-put-code-2 : tie.Need-slice-aggregate-put-code-2
-slice-aggregate-put-code-2 c = refl
 
 put-code-requires-3 : tie.Need-put-code-requires-3
 put-code-requires-3 c κs =
@@ -109,19 +88,5 @@ returns c =
 pub put-codes-spec : {M : Type 1} → statement M
 put-codes-spec =
     tie.close
-    (tie.spec
-    put-code-requires
-    sub-put-code
-    part-put-code-start
-    part-put-code-end
-    slice-aggregate-put-code
-    put-code-requires-2
-    add-b
-    sub-put-code-2
-    part-put-code-start-2
-    part-put-code-end-2
-    slice-aggregate-put-code-2
-    put-code-requires-3
-    add-result
-    same-length
-    returns)
+    (tie.spec (λ c κs. let e = c .before .before .before in (e .pre .0, room₁ e)) sub-put-code (λ c. sub-put-code c) (λ c. le-refl _) (λ c. refl)
+    put-code-requires-2 add-b sub-put-code-2 (λ c. sub-put-code-2 c) (λ c. le-refl _) (λ c. refl) put-code-requires-3 add-result same-length returns)

@@ -4,21 +4,6 @@ use Rattle.readback.proofs.Table.{text, starts, starts-order, starts-wi
 use Rattle.readback.proofs.dictionary.put_word.Statement.{statement}
 use Rattle.readback.proofs.dictionary.put_word.Tie as tie
 
-mul-start : tie.Need-mul-start
-mul-start c = search needs
-
-array-read-start : tie.Need-array-read-start
-array-read-start c = search needs
-
-add-end : tie.Need-add-end
-add-end c = search needs
-
-mul-end : tie.Need-mul-end
-mul-end c = search needs
-
-array-read-end : tie.Need-array-read-end
-array-read-end c = search needs
-
 sub-put : tie.Need-sub-put
 unfolding text starts
 sub-put c = let a = c .before .before in starts-order (a .args .w) (a .pre .0)
@@ -35,9 +20,6 @@ put-requires : tie.Need-put-requires
 unfolding text starts
 put-requires c κs = let a = c .before .before .before .before in rw (part-same (a .args .w) (a .pre .0)) (a .pre .1)
 
-same-length : tie.Need-same-length
-same-length c = search needs
-
 returns : tie.Need-returns
 unfolding text starts
 returns c =
@@ -47,15 +29,5 @@ returns c =
 pub put-word-spec : {M : Type 1} → statement M
 put-word-spec =
     tie.close
-    (tie.spec
-    mul-start
-    array-read-start
-    add-end
-    mul-end
-    array-read-end
-    sub-put
-    part-put-start
-    part-put-end
-    put-requires
-    same-length
-    returns)
+    (tie.spec (λ c. search needs) (λ c. search needs) (λ c. search needs) (λ c. search needs) (λ c. search needs) sub-put part-put-start part-put-end
+    put-requires (λ c. search needs) returns)

@@ -14,12 +14,6 @@ use Rattle.readback.proofs.Units.{counted-some, unit-known}
 use Rattle.readback.proofs.duration.put_counted.Statement.{statement}
 use Rattle.readback.proofs.duration.put_counted.Tie as tie
 
-returns : tie.Need-returns
-returns c = rw (counted-none _ _ _ (c .if1 .taken)) (put-none _)
-
-unit-of-requires : tie.Need-unit-of-requires
-unit-of-requires c κs = search needs
-
 abbrev s₁ : tie.After-unit-of → List ℕ
 s₁ e = let a = e .before .before .before in said (a .args .n)
 
@@ -35,20 +29,11 @@ room₂ e = rw (law e) at (e .before .before .before .pre .2)
 room₁ : (e : tie.After-unit-of) → length (s₁ e) ≤ length (e .before .before .before .args .dst .now)
 room₁ e = room-left (s₁ e) (s₂ e) (room₂ e)
 
-put-number-requires : tie.Need-put-number-requires
-put-number-requires c κs = room₁ (c .before)
-
 sub-put-word : tie.Need-sub-put-word
 sub-put-word c =
     let e = c .before .before .before .before in
     let p₁ = c .before .before .put-number .ensures in
     put-in _ _ p₁ (room₁ e)
-
-part-put-word-start : tie.Need-part-put-word-start
-part-put-word-start c = sub-put-word c
-
-part-put-word-end : tie.Need-part-put-word-end
-part-put-word-end c = le-refl _
 
 put-word-requires : tie.Need-put-word-requires
 put-word-requires c κs =
@@ -79,14 +64,5 @@ returns-2 c =
 pub put-counted-spec : {M : Type 1} → statement M
 put-counted-spec =
     tie.close
-    (tie.spec
-    returns
-    unit-of-requires
-    put-number-requires
-    sub-put-word
-    part-put-word-start
-    part-put-word-end
-    put-word-requires
-    add-result
-    same-length
-    returns-2)
+    (tie.spec (λ c. rw (counted-none _ _ _ (c .if1 .taken)) (put-none _)) (λ c κs. search needs) (λ c κs. room₁ (c .before)) sub-put-word
+    (λ c. sub-put-word c) (λ c. le-refl _) put-word-requires add-result same-length returns-2)

@@ -36,20 +36,11 @@ room₂ e = room-left (s₁ e ++ s₂ e) (s₃ e) (room₃ e)
 room₁ : (e : tie.After-slice-known) → length (s₁ e) ≤ length (e .before .args .dst .now)
 room₁ e = room-left (s₁ e) (s₂ e) (room₂ e)
 
-put-counted-requires : tie.Need-put-counted-requires
-put-counted-requires c κs = (omega arith, omega arith, room₁ (c .before))
-
 sub-put-counted : tie.Need-sub-put-counted
 sub-put-counted c =
     let e = c .before .before .before .before in
     let p₁ = c .before .before .put-counted .ensures in
     put-in _ _ p₁ (room₁ e)
-
-part-put-counted-start : tie.Need-part-put-counted-start
-part-put-counted-start c = sub-put-counted c
-
-part-put-counted-end : tie.Need-part-put-counted-end
-part-put-counted-end c = le-refl _
 
 put-counted-requires-2 : tie.Need-put-counted-requires-2
 put-counted-requires-2 c κs =
@@ -69,12 +60,6 @@ sub-put-counted-2 c =
     let p₁ = c .before .before .before .before .before .before .put-counted .ensures in
     let p₂ = put-then _ _ p₁ _ (room₂ e) (c .before .before .put-counted2 .ensures) in
     put-in _ _ p₂ (room₂ e)
-
-part-put-counted-start-2 : tie.Need-part-put-counted-start-2
-part-put-counted-start-2 c = sub-put-counted-2 c
-
-part-put-counted-end-2 : tie.Need-part-put-counted-end-2
-part-put-counted-end-2 c = le-refl _
 
 put-counted-requires-3 : tie.Need-put-counted-requires-3
 put-counted-requires-3 c κs =
@@ -97,12 +82,6 @@ sub-put-counted-3 c =
     let p₂ = put-then _ _ p₁ _ (room₂ e) (c .before .before .before .before .before .before .put-counted2 .ensures) in
     let p₃ = put-then _ _ p₂ _ (room₃ e) (c .before .before .put-counted3 .ensures) in
     put-in _ _ p₃ (room₃ e)
-
-part-put-counted-start-3 : tie.Need-part-put-counted-start-3
-part-put-counted-start-3 c = sub-put-counted-3 c
-
-part-put-counted-end-3 : tie.Need-part-put-counted-end-3
-part-put-counted-end-3 c = le-refl _
 
 put-counted-requires-4 : tie.Need-put-counted-requires-4
 put-counted-requires-4 c κs =
@@ -141,22 +120,6 @@ returns c =
 pub put-duration-spec : {M : Type 1} → statement M
 put-duration-spec =
     tie.close
-    (tie.spec
-    put-counted-requires
-    sub-put-counted
-    part-put-counted-start
-    part-put-counted-end
-    put-counted-requires-2
-    add-b
-    sub-put-counted-2
-    part-put-counted-start-2
-    part-put-counted-end-2
-    put-counted-requires-3
-    add-c
-    sub-put-counted-3
-    part-put-counted-start-3
-    part-put-counted-end-3
-    put-counted-requires-4
-    add-result
-    same-length
-    returns)
+    (tie.spec (λ c κs. (omega arith, omega arith, room₁ (c .before))) sub-put-counted (λ c. sub-put-counted c) (λ c. le-refl _)
+    put-counted-requires-2 add-b sub-put-counted-2 (λ c. sub-put-counted-2 c) (λ c. le-refl _) put-counted-requires-3 add-c sub-put-counted-3
+    (λ c. sub-put-counted-3 c) (λ c. le-refl _) put-counted-requires-4 add-result same-length returns)

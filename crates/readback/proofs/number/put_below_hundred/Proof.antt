@@ -15,9 +15,6 @@ use Rattle.readback.proofs.number.put_below_hundred.Tie as tie
 put-ones-requires : tie.Need-put-ones-requires
 put-ones-requires c κs = let a = c .before .before .before in (c .before .if1 .taken, rw (hundred-low (a .args .n) (c .before .if1 .taken)) at (a .pre .1))
 
-same-length : tie.Need-same-length
-same-length c = search needs
-
 returns : tie.Need-returns
 returns c = rw (hundred-low _ (c .before .before .before .before .if1 .taken)) (c .before .before .put-ones .ensures)
 
@@ -33,23 +30,11 @@ room₂ e = let a = e .before .before in rw (hundred-high (a .args .n) (e .if1 .
 room₁ : (e : tie.Else1) → length (s₁ e) ≤ length (e .before .before .args .dst .now)
 room₁ e = room-left (s₁ e) (s₂ e) (room₂ e)
 
-add-put-word : tie.Need-add-put-word
-add-put-word c = search needs
-
-put-word-requires : tie.Need-put-word-requires
-put-word-requires c κs = (omega arith, room₁ (c .before))
-
 sub-put-ones : tie.Need-sub-put-ones
 sub-put-ones c =
     let e = c .before .before .before .before in
     let p₁ = c .before .before .put-word .ensures in
     put-in _ _ p₁ (room₁ e)
-
-part-put-ones-start : tie.Need-part-put-ones-start
-part-put-ones-start c = sub-put-ones c
-
-part-put-ones-end : tie.Need-part-put-ones-end
-part-put-ones-end c = le-refl _
 
 put-ones-requires-2 : tie.Need-put-ones-requires-2
 put-ones-requires-2 c κs =
@@ -80,16 +65,5 @@ returns-2 c =
 pub put-below-hundred-spec : {M : Type 1} → statement M
 put-below-hundred-spec =
     tie.close
-    (tie.spec
-    put-ones-requires
-    same-length
-    returns
-    add-put-word
-    put-word-requires
-    sub-put-ones
-    part-put-ones-start
-    part-put-ones-end
-    put-ones-requires-2
-    add-result
-    same-length-2
-    returns-2)
+    (tie.spec put-ones-requires (λ c. search needs) returns (λ c. search needs) (λ c κs. (omega arith, room₁ (c .before))) sub-put-ones
+    (λ c. sub-put-ones c) (λ c. le-refl _) put-ones-requires-2 add-result same-length-2 returns-2)

@@ -15,9 +15,6 @@ use Rattle.readback.proofs.number.put_below_thousand.Tie as tie
 put-below-hundred-requires : tie.Need-put-below-hundred-requires
 put-below-hundred-requires c κs = let a = c .before .before .before in (omega arith, rw (thousand-low (a .args .n) (c .before .if1 .taken)) at (a .pre .1))
 
-same-length : tie.Need-same-length
-same-length c = search needs
-
 returns : tie.Need-returns
 returns c = rw (thousand-low _ (c .before .before .before .before .if1 .taken)) (c .before .before .put-below-hundred .ensures)
 
@@ -39,20 +36,11 @@ room₂ e = room-left (s₁ e ++ s₂ e) (s₃ e) (room₃ e)
 room₁ : (e : tie.Else1) → length (s₁ e) ≤ length (e .before .before .args .dst .now)
 room₁ e = room-left (s₁ e) (s₂ e) (room₂ e)
 
-put-word-requires : tie.Need-put-word-requires
-put-word-requires c κs = (omega arith, room₁ (c .before))
-
 sub-put-word : tie.Need-sub-put-word
 sub-put-word c =
     let e = c .before .before .before .before in
     let p₁ = c .before .before .put-word .ensures in
     put-in _ _ p₁ (room₁ e)
-
-part-put-word-start : tie.Need-part-put-word-start
-part-put-word-start c = sub-put-word c
-
-part-put-word-end : tie.Need-part-put-word-end
-part-put-word-end c = le-refl _
 
 put-word-requires-2 : tie.Need-put-word-requires-2
 put-word-requires-2 c κs =
@@ -72,12 +60,6 @@ sub-put-below-hundred c =
     let p₁ = c .before .before .before .before .before .before .put-word .ensures in
     let p₂ = put-then _ _ p₁ _ (room₂ e) (c .before .before .put-word2 .ensures) in
     put-in _ _ p₂ (room₂ e)
-
-part-put-below-hundred-start : tie.Need-part-put-below-hundred-start
-part-put-below-hundred-start c = sub-put-below-hundred c
-
-part-put-below-hundred-end : tie.Need-part-put-below-hundred-end
-part-put-below-hundred-end c = le-refl _
 
 put-below-hundred-requires-2 : tie.Need-put-below-hundred-requires-2
 put-below-hundred-requires-2 c κs =
@@ -112,20 +94,6 @@ returns-2 c =
 pub put-below-thousand-spec : {M : Type 1} → statement M
 put-below-thousand-spec =
     tie.close
-    (tie.spec
-    put-below-hundred-requires
-    same-length
-    returns
-    put-word-requires
-    sub-put-word
-    part-put-word-start
-    part-put-word-end
-    put-word-requires-2
-    add-m
-    sub-put-below-hundred
-    part-put-below-hundred-start
-    part-put-below-hundred-end
-    put-below-hundred-requires-2
-    add-result
-    same-length-2
-    returns-2)
+    (tie.spec put-below-hundred-requires (λ c. search needs) returns (λ c κs. (omega arith, room₁ (c .before))) sub-put-word (λ c. sub-put-word c)
+    (λ c. le-refl _) put-word-requires-2 add-m sub-put-below-hundred (λ c. sub-put-below-hundred c) (λ c. le-refl _) put-below-hundred-requires-2
+    add-result same-length-2 returns-2)

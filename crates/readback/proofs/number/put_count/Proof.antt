@@ -21,20 +21,11 @@ room₂ e = e .pre
 room₁ : (e : tie.Start) → length (s₁ e) ≤ length (e .args .dst .now)
 room₁ e = room-left (s₁ e) (s₂ e) (room₂ e)
 
-put-requires : tie.Need-put-requires
-put-requires c κs = room₁ (c .before .before .before)
-
 sub-put-number : tie.Need-sub-put-number
 sub-put-number c =
     let e = c .before .before .before .before .before .before in
     let p₁ = c .before .before .put .ensures in
     put-in _ _ p₁ (room₁ e)
-
-part-put-number-start : tie.Need-part-put-number-start
-part-put-number-start c = sub-put-number c
-
-part-put-number-end : tie.Need-part-put-number-end
-part-put-number-end c = le-refl _
 
 put-number-requires : tie.Need-put-number-requires
 put-number-requires c κs =
@@ -65,12 +56,5 @@ returns c =
 pub put-count-spec : {M : Type 1} → statement M
 put-count-spec =
     tie.close
-    (tie.spec
-    put-requires
-    sub-put-number
-    part-put-number-start
-    part-put-number-end
-    put-number-requires
-    add-result
-    same-length
-    returns)
+    (tie.spec (λ c κs. room₁ (c .before .before .before)) sub-put-number (λ c. sub-put-number c) (λ c. le-refl _) put-number-requires add-result
+    same-length returns)

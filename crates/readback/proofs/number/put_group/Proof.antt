@@ -11,9 +11,6 @@ use Rattle.readback.proofs.Room.{room-left}
 use Rattle.readback.proofs.number.put_group.Statement.{statement}
 use Rattle.readback.proofs.number.put_group.Tie as tie
 
-returns : tie.Need-returns
-returns c = rw (group-none _ _ (c .if1 .taken)) (put-none _)
-
 abbrev s₁ : tie.Else1 → List ℕ
 s₁ e = let a = e .before .before in spaced (belowThousand (a .args .count))
 
@@ -26,20 +23,11 @@ room₂ e = let a = e .before .before in rw (group-some (a .args .count) (a .arg
 room₁ : (e : tie.Else1) → length (s₁ e) ≤ length (e .before .before .args .dst .now)
 room₁ e = room-left (s₁ e) (s₂ e) (room₂ e)
 
-put-below-thousand-requires : tie.Need-put-below-thousand-requires
-put-below-thousand-requires c κs = (omega arith, room₁ (c .before))
-
 sub-put-word : tie.Need-sub-put-word
 sub-put-word c =
     let e = c .before .before .before .before in
     let p₁ = c .before .before .put-below-thousand .ensures in
     put-in _ _ p₁ (room₁ e)
-
-part-put-word-start : tie.Need-part-put-word-start
-part-put-word-start c = sub-put-word c
-
-part-put-word-end : tie.Need-part-put-word-end
-part-put-word-end c = le-refl _
 
 put-word-requires : tie.Need-put-word-requires
 put-word-requires c κs =
@@ -70,13 +58,5 @@ returns-2 c =
 pub put-group-spec : {M : Type 1} → statement M
 put-group-spec =
     tie.close
-    (tie.spec
-    returns
-    put-below-thousand-requires
-    sub-put-word
-    part-put-word-start
-    part-put-word-end
-    put-word-requires
-    add-result
-    same-length
-    returns-2)
+    (tie.spec (λ c. rw (group-none _ _ (c .if1 .taken)) (put-none _)) (λ c κs. (omega arith, room₁ (c .before))) sub-put-word (λ c. sub-put-word c)
+    (λ c. le-refl _) put-word-requires add-result same-length returns-2)

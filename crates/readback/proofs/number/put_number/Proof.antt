@@ -15,9 +15,6 @@ use Rattle.readback.proofs.number.put_number.Tie as tie
 put-word-requires : tie.Need-put-word-requires
 put-word-requires c κs = let a = c .before .before .before in (omega arith, rw (said-zero (a .args .n) (c .before .if1 .taken)) at (a .pre))
 
-same-length : tie.Need-same-length
-same-length c = search needs
-
 returns : tie.Need-returns
 returns c = rw (said-zero _ (c .before .before .before .before .if1 .taken)) (c .before .before .put-word .ensures)
 
@@ -45,20 +42,11 @@ room₂ e = room-left (s₁ e ++ s₂ e) (s₃ e) (room₃ e)
 room₁ : (e : tie.Else1) → length (s₁ e) ≤ length (e .before .before .args .dst .now)
 room₁ e = room-left (s₁ e) (s₂ e) (room₂ e)
 
-put-group-requires : tie.Need-put-group-requires
-put-group-requires c κs = (omega arith, omega arith, room₁ (c .before))
-
 sub-put-group : tie.Need-sub-put-group
 sub-put-group c =
     let e = c .before .before .before .before in
     let p₁ = c .before .before .put-group .ensures in
     put-in _ _ p₁ (room₁ e)
-
-part-put-group-start : tie.Need-part-put-group-start
-part-put-group-start c = sub-put-group c
-
-part-put-group-end : tie.Need-part-put-group-end
-part-put-group-end c = le-refl _
 
 put-group-requires-2 : tie.Need-put-group-requires-2
 put-group-requires-2 c κs =
@@ -78,12 +66,6 @@ sub-put-group-2 c =
     let p₁ = c .before .before .before .before .before .before .put-group .ensures in
     let p₂ = put-then _ _ p₁ _ (room₂ e) (c .before .before .put-group2 .ensures) in
     put-in _ _ p₂ (room₂ e)
-
-part-put-group-start-2 : tie.Need-part-put-group-start-2
-part-put-group-start-2 c = sub-put-group-2 c
-
-part-put-group-end-2 : tie.Need-part-put-group-end-2
-part-put-group-end-2 c = le-refl _
 
 put-group-requires-3 : tie.Need-put-group-requires-3
 put-group-requires-3 c κs =
@@ -106,12 +88,6 @@ sub-put-below-thousand c =
     let p₂ = put-then _ _ p₁ _ (room₂ e) (c .before .before .before .before .before .before .put-group2 .ensures) in
     let p₃ = put-then _ _ p₂ _ (room₃ e) (c .before .before .put-group3 .ensures) in
     put-in _ _ p₃ (room₃ e)
-
-part-put-below-thousand-start : tie.Need-part-put-below-thousand-start
-part-put-below-thousand-start c = sub-put-below-thousand c
-
-part-put-below-thousand-end : tie.Need-part-put-below-thousand-end
-part-put-below-thousand-end c = le-refl _
 
 put-below-thousand-requires : tie.Need-put-below-thousand-requires
 put-below-thousand-requires c κs =
@@ -150,25 +126,6 @@ returns-2 c =
 pub put-number-spec : {M : Type 1} → statement M
 put-number-spec =
     tie.close
-    (tie.spec
-    put-word-requires
-    same-length
-    returns
-    put-group-requires
-    sub-put-group
-    part-put-group-start
-    part-put-group-end
-    put-group-requires-2
-    add-b
-    sub-put-group-2
-    part-put-group-start-2
-    part-put-group-end-2
-    put-group-requires-3
-    add-c
-    sub-put-below-thousand
-    part-put-below-thousand-start
-    part-put-below-thousand-end
-    put-below-thousand-requires
-    add-result
-    same-length-2
-    returns-2)
+    (tie.spec put-word-requires (λ c. search needs) returns (λ c κs. (omega arith, omega arith, room₁ (c .before))) sub-put-group
+    (λ c. sub-put-group c) (λ c. le-refl _) put-group-requires-2 add-b sub-put-group-2 (λ c. sub-put-group-2 c) (λ c. le-refl _) put-group-requires-3
+    add-c sub-put-below-thousand (λ c. sub-put-below-thousand c) (λ c. le-refl _) put-below-thousand-requires add-result same-length-2 returns-2)

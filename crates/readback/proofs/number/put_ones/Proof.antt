@@ -6,17 +6,11 @@ use Rattle.words.proofs.Cases.{ones-none, ones-some}
 use Rattle.readback.proofs.number.put_ones.Statement.{statement}
 use Rattle.readback.proofs.number.put_ones.Tie as tie
 
-returns : tie.Need-returns
-returns c = rw (ones-none _ (c .if1 .taken)) (put-none _)
-
 put-word-requires : tie.Need-put-word-requires
 put-word-requires c κs = let a = c .before .before .before in (omega arith, rw (ones-some (a .args .n) (c .before .if1 .left)) at (a .pre .1))
-
-same-length : tie.Need-same-length
-same-length c = search needs
 
 returns-2 : tie.Need-returns-2
 returns-2 c = rw (ones-some _ (c .before .before .before .before .if1 .left)) (c .before .before .put-word .ensures)
 
 pub put-ones-spec : {M : Type 1} → statement M
-put-ones-spec = tie.close (tie.spec returns put-word-requires same-length returns-2)
+put-ones-spec = tie.close (tie.spec (λ c. rw (ones-none _ (c .if1 .taken)) (put-none _)) put-word-requires (λ c. search needs) returns-2)

@@ -20,20 +20,11 @@ room₂ e = e .pre
 room₁ : (e : tie.Start) → length (s₁ e) ≤ length (e .args .dst .now)
 room₁ e = room-left (s₁ e) (s₂ e) (room₂ e)
 
-put-requires : tie.Need-put-requires
-put-requires c κs = room₁ (c .before .before .before .before)
-
 sub-put : tie.Need-sub-put
 sub-put c =
     let e = c .before .before .before .before .before .before .before in
     let p₁ = c .before .before .put .ensures in
     put-in _ _ p₁ (room₁ e)
-
-part-put-start : tie.Need-part-put-start
-part-put-start c = sub-put c
-
-part-put-end : tie.Need-part-put-end
-part-put-end c = le-refl _
 
 put-requires-2 : tie.Need-put-requires-2
 put-requires-2 c κs =
@@ -64,12 +55,5 @@ returns c =
 pub put-both-spec : {M : Type 1} → statement M
 put-both-spec =
     tie.close
-    (tie.spec
-    put-requires
-    sub-put
-    part-put-start
-    part-put-end
-    put-requires-2
-    add-result
-    same-length
+    (tie.spec (λ c κs. room₁ (c .before .before .before .before)) sub-put (λ c. sub-put c) (λ c. le-refl _) put-requires-2 add-result same-length
     returns)

@@ -9,9 +9,6 @@ put-requires : tie.Need-put-requires
 unfolding flag
 put-requires c κs = rw (c .before .if1 .taken) at (c .before .before .before .before .pre)
 
-same-length : tie.Need-same-length
-same-length c = search needs
-
 returns : tie.Need-returns
 unfolding flag
 returns c = rw (c .before .before .before .before .if1 .taken) (c .before .before .put .ensures)
@@ -21,4 +18,4 @@ unfolding flag
 returns-2 c = rw (c .if1 .left) (put-none _)
 
 pub put-flag-spec : {M : Type 1} → statement M
-put-flag-spec = tie.close (tie.spec put-requires same-length returns returns-2)
+put-flag-spec = tie.close (tie.spec put-requires (λ c. search needs) returns returns-2)

@@ -36,26 +36,11 @@ room₂ e = room-left (s₁ e ++ s₂ e) (s₃ e) (room₃ e)
 room₁ : (e : tie.Start) → length (s₁ e) ≤ length (e .args .dst .now)
 room₁ e = room-left (s₁ e) (s₂ e) (room₂ e)
 
-slice-aggregate-put-flag : tie.Need-slice-aggregate-put-flag
-slice-aggregate-put-flag c = refl
-
-put-flag-requires : tie.Need-put-flag-requires
-put-flag-requires c κs = room₁ (c .before .before .before)
-
 sub-put-flag : tie.Need-sub-put-flag
 sub-put-flag c =
     let e = c .before .before .before .before .before .before in
     let p₁ = c .before .before .put-flag .ensures in
     put-in _ _ p₁ (room₁ e)
-
-part-put-flag-start : tie.Need-part-put-flag-start
-part-put-flag-start c = sub-put-flag c
-
-part-put-flag-end : tie.Need-part-put-flag-end
-part-put-flag-end c = le-refl _
-
-slice-aggregate-put-flag-2 : tie.Need-slice-aggregate-put-flag-2
-slice-aggregate-put-flag-2 c = refl
 
 put-flag-requires-2 : tie.Need-put-flag-requires-2
 put-flag-requires-2 c κs =
@@ -75,15 +60,6 @@ sub-put-flag-2 c =
     let p₁ = c .before .before .before .before .before .before .before .put-flag .ensures in
     let p₂ = put-then _ _ p₁ _ (room₂ e) (c .before .before .put-flag2 .ensures) in
     put-in _ _ p₂ (room₂ e)
-
-part-put-flag-start-2 : tie.Need-part-put-flag-start-2
-part-put-flag-start-2 c = sub-put-flag-2 c
-
-part-put-flag-end-2 : tie.Need-part-put-flag-end-2
-part-put-flag-end-2 c = le-refl _
-
-slice-aggregate-put-flag-3 : tie.Need-slice-aggregate-put-flag-3
-slice-aggregate-put-flag-3 c = refl
 
 put-flag-requires-3 : tie.Need-put-flag-requires-3
 put-flag-requires-3 c κs =
@@ -106,15 +82,6 @@ sub-put-flag-3 c =
     let p₂ = put-then _ _ p₁ _ (room₂ e) (c .before .before .before .before .before .before .before .put-flag2 .ensures) in
     let p₃ = put-then _ _ p₂ _ (room₃ e) (c .before .before .put-flag3 .ensures) in
     put-in _ _ p₃ (room₃ e)
-
-part-put-flag-start-3 : tie.Need-part-put-flag-start-3
-part-put-flag-start-3 c = sub-put-flag-3 c
-
-part-put-flag-end-3 : tie.Need-part-put-flag-end-3
-part-put-flag-end-3 c = le-refl _
-
-slice-aggregate-put-flag-4 : tie.Need-slice-aggregate-put-flag-4
-slice-aggregate-put-flag-4 c = refl
 
 put-flag-requires-4 : tie.Need-put-flag-requires-4
 put-flag-requires-4 c κs =
@@ -153,26 +120,6 @@ returns c =
 pub put-flags-spec : {M : Type 1} → statement M
 put-flags-spec =
     tie.close
-    (tie.spec
-    slice-aggregate-put-flag
-    put-flag-requires
-    sub-put-flag
-    part-put-flag-start
-    part-put-flag-end
-    slice-aggregate-put-flag-2
-    put-flag-requires-2
-    add-b
-    sub-put-flag-2
-    part-put-flag-start-2
-    part-put-flag-end-2
-    slice-aggregate-put-flag-3
-    put-flag-requires-3
-    add-c
-    sub-put-flag-3
-    part-put-flag-start-3
-    part-put-flag-end-3
-    slice-aggregate-put-flag-4
-    put-flag-requires-4
-    add-result
-    same-length
-    returns)
+    (tie.spec (λ c. refl) (λ c κs. room₁ (c .before .before .before)) sub-put-flag (λ c. sub-put-flag c) (λ c. le-refl _) (λ c. refl)
+    put-flag-requires-2 add-b sub-put-flag-2 (λ c. sub-put-flag-2 c) (λ c. le-refl _) (λ c. refl) put-flag-requires-3 add-c sub-put-flag-3
+    (λ c. sub-put-flag-3 c) (λ c. le-refl _) (λ c. refl) put-flag-requires-4 add-result same-length returns)

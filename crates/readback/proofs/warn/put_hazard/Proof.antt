@@ -48,26 +48,11 @@ room₂ e = room-left (s₁ e ++ s₂ e) (s₃ e) (room₃ e)
 room₁ : (e : tie.Start) → length (s₁ e) ≤ length (e .args .dst .now)
 room₁ e = room-left (s₁ e) (s₂ e) (room₂ e)
 
-slice-aggregate-put-byte : tie.Need-slice-aggregate-put-byte
-slice-aggregate-put-byte c = refl
-
-put-byte-requires : tie.Need-put-byte-requires
-put-byte-requires c κs = room₁ (c .before .before .before)
-
 sub-put-byte : tie.Need-sub-put-byte
 sub-put-byte c =
     let e = c .before .before .before .before .before .before in
     let p₁ = c .before .before .put-byte .ensures in
     put-in _ _ p₁ (room₁ e)
-
-part-put-byte-start : tie.Need-part-put-byte-start
-part-put-byte-start c = sub-put-byte c
-
-part-put-byte-end : tie.Need-part-put-byte-end
-part-put-byte-end c = le-refl _
-
-slice-aggregate-put-byte-2 : tie.Need-slice-aggregate-put-byte-2
-slice-aggregate-put-byte-2 c = refl
 
 put-byte-requires-2 : tie.Need-put-byte-requires-2
 put-byte-requires-2 c κs =
@@ -87,15 +72,6 @@ sub-put-byte-2 c =
     let p₁ = c .before .before .before .before .before .before .before .put-byte .ensures in
     let p₂ = put-then _ _ p₁ (s₂ e) (room₂ e) (c .before .before .put-byte2 .ensures) in
     put-in _ _ p₂ (room₂ e)
-
-part-put-byte-start-2 : tie.Need-part-put-byte-start-2
-part-put-byte-start-2 c = sub-put-byte-2 c
-
-part-put-byte-end-2 : tie.Need-part-put-byte-end-2
-part-put-byte-end-2 c = le-refl _
-
-slice-aggregate-put-byte-3 : tie.Need-slice-aggregate-put-byte-3
-slice-aggregate-put-byte-3 c = refl
 
 put-byte-requires-3 : tie.Need-put-byte-requires-3
 put-byte-requires-3 c κs =
@@ -118,15 +94,6 @@ sub-put-byte-3 c =
     let p₂ = put-then _ _ p₁ (s₂ e) (room₂ e) (c .before .before .before .before .before .before .before .put-byte2 .ensures) in
     let p₃ = put-then _ _ p₂ (s₃ e) (room₃ e) (c .before .before .put-byte3 .ensures) in
     put-in _ _ p₃ (room₃ e)
-
-part-put-byte-start-3 : tie.Need-part-put-byte-start-3
-part-put-byte-start-3 c = sub-put-byte-3 c
-
-part-put-byte-end-3 : tie.Need-part-put-byte-end-3
-part-put-byte-end-3 c = le-refl _
-
-slice-aggregate-put-byte-4 : tie.Need-slice-aggregate-put-byte-4
-slice-aggregate-put-byte-4 c = refl
 
 put-byte-requires-4 : tie.Need-put-byte-requires-4
 put-byte-requires-4 c κs =
@@ -152,15 +119,6 @@ sub-put-byte-4 c =
     let p₃ = put-then _ _ p₂ (s₃ e) (room₃ e) (c .before .before .before .before .before .before .before .put-byte3 .ensures) in
     let p₄ = put-then _ _ p₃ (s₄ e) (room₄ e) (c .before .before .put-byte4 .ensures) in
     put-in _ _ p₄ (room₄ e)
-
-part-put-byte-start-4 : tie.Need-part-put-byte-start-4
-part-put-byte-start-4 c = sub-put-byte-4 c
-
-part-put-byte-end-4 : tie.Need-part-put-byte-end-4
-part-put-byte-end-4 c = le-refl _
-
-slice-aggregate-put-byte-5 : tie.Need-slice-aggregate-put-byte-5
-slice-aggregate-put-byte-5 c = refl
 
 put-byte-requires-5 : tie.Need-put-byte-requires-5
 put-byte-requires-5 c κs =
@@ -189,15 +147,6 @@ sub-put-byte-5 c =
     let p₄ = put-then _ _ p₃ (s₄ e) (room₄ e) (c .before .before .before .before .before .before .before .put-byte4 .ensures) in
     let p₅ = put-then _ _ p₄ (s₅ e) (room₅ e) (c .before .before .put-byte5 .ensures) in
     put-in _ _ p₅ (room₅ e)
-
-part-put-byte-start-5 : tie.Need-part-put-byte-start-5
-part-put-byte-start-5 c = sub-put-byte-5 c
-
-part-put-byte-end-5 : tie.Need-part-put-byte-end-5
-part-put-byte-end-5 c = le-refl _
-
-slice-aggregate-put-byte-6 : tie.Need-slice-aggregate-put-byte-6
-slice-aggregate-put-byte-6 c = refl
 
 put-byte-requires-6 : tie.Need-put-byte-requires-6
 put-byte-requires-6 c κs =
@@ -244,38 +193,8 @@ returns c =
 pub put-hazard-spec : {M : Type 1} → statement M
 put-hazard-spec =
     tie.close
-    (tie.spec
-    slice-aggregate-put-byte
-    put-byte-requires
-    sub-put-byte
-    part-put-byte-start
-    part-put-byte-end
-    slice-aggregate-put-byte-2
-    put-byte-requires-2
-    add-b
-    sub-put-byte-2
-    part-put-byte-start-2
-    part-put-byte-end-2
-    slice-aggregate-put-byte-3
-    put-byte-requires-3
-    add-c
-    sub-put-byte-3
-    part-put-byte-start-3
-    part-put-byte-end-3
-    slice-aggregate-put-byte-4
-    put-byte-requires-4
-    add-d
-    sub-put-byte-4
-    part-put-byte-start-4
-    part-put-byte-end-4
-    slice-aggregate-put-byte-5
-    put-byte-requires-5
-    add-e
-    sub-put-byte-5
-    part-put-byte-start-5
-    part-put-byte-end-5
-    slice-aggregate-put-byte-6
-    put-byte-requires-6
-    add-result
-    same-length
-    returns)
+    (tie.spec (λ c. refl) (λ c κs. room₁ (c .before .before .before)) sub-put-byte (λ c. sub-put-byte c) (λ c. le-refl _) (λ c. refl)
+    put-byte-requires-2 add-b sub-put-byte-2 (λ c. sub-put-byte-2 c) (λ c. le-refl _) (λ c. refl) put-byte-requires-3 add-c sub-put-byte-3
+    (λ c. sub-put-byte-3 c) (λ c. le-refl _) (λ c. refl) put-byte-requires-4 add-d sub-put-byte-4 (λ c. sub-put-byte-4 c) (λ c. le-refl _)
+    (λ c. refl) put-byte-requires-5 add-e sub-put-byte-5 (λ c. sub-put-byte-5 c) (λ c. le-refl _) (λ c. refl) put-byte-requires-6 add-result
+    same-length returns)

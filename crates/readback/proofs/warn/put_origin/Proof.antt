@@ -44,29 +44,11 @@ room₂ e = room-left (s₁ e ++ s₂ e) (s₃ e) (room₃ e)
 room₁ : (e : tie.Start) → length (s₁ e) ≤ length (e .args .dst .now)
 room₁ e = room-left (s₁ e) (s₂ e) (room₂ e)
 
-slice-aggregate-put-count : tie.Need-slice-aggregate-put-count
-slice-aggregate-put-count c = refl
-
-put-count-requires : tie.Need-put-count-requires
-put-count-requires c κs = room₁ (c .before .before .before)
-
 sub-put-count : tie.Need-sub-put-count
 sub-put-count c =
     let e = c .before .before .before .before .before .before in
     let p₁ = c .before .before .put-count .ensures in
     put-in _ _ p₁ (room₁ e)
-
-part-put-count-start : tie.Need-part-put-count-start
-part-put-count-start c = sub-put-count c
-
-part-put-count-end : tie.Need-part-put-count-end
-part-put-count-end c = le-refl _
-
-slice-aggregate-put-count-2 : tie.Need-slice-aggregate-put-count-2
-slice-aggregate-put-count-2 c = refl
-
-cast-put-count : tie.Need-cast-put-count
-cast-put-count c = search needs
 
 put-count-requires-2 : tie.Need-put-count-requires-2
 put-count-requires-2 c κs =
@@ -86,15 +68,6 @@ sub-put-count-2 c =
     let p₁ = c .before .before .before .before .before .before .before .before .put-count .ensures in
     let p₂ = put-then _ _ p₁ _ (room₂ e) (c .before .before .put-count2 .ensures) in
     put-in _ _ p₂ (room₂ e)
-
-part-put-count-start-2 : tie.Need-part-put-count-start-2
-part-put-count-start-2 c = sub-put-count-2 c
-
-part-put-count-end-2 : tie.Need-part-put-count-end-2
-part-put-count-end-2 c = le-refl _
-
-slice-aggregate-put-count-3 : tie.Need-slice-aggregate-put-count-3
-slice-aggregate-put-count-3 c = refl
 
 put-count-requires-3 : tie.Need-put-count-requires-3
 put-count-requires-3 c κs =
@@ -117,15 +90,6 @@ sub-put c =
     let p₂ = put-then _ _ p₁ _ (room₂ e) (c .before .before .before .before .before .before .before .put-count2 .ensures) in
     let p₃ = put-then _ _ p₂ _ (room₃ e) (c .before .before .put-count3 .ensures) in
     put-in _ _ p₃ (room₃ e)
-
-part-put-start : tie.Need-part-put-start
-part-put-start c = sub-put c
-
-part-put-end : tie.Need-part-put-end
-part-put-end c = le-refl _
-
-slice-aggregate-put : tie.Need-slice-aggregate-put
-slice-aggregate-put c = refl
 
 put-requires : tie.Need-put-requires
 put-requires c κs =
@@ -151,12 +115,6 @@ sub-put-duration c =
     let p₃ = put-then _ _ p₂ _ (room₃ e) (c .before .before .before .before .before .before .before .put-count3 .ensures) in
     let p₄ = put-then _ _ p₃ _ (room₄ e) (c .before .before .put .ensures) in
     put-in _ _ p₄ (room₄ e)
-
-part-put-duration-start : tie.Need-part-put-duration-start
-part-put-duration-start c = sub-put-duration c
-
-part-put-duration-end : tie.Need-part-put-duration-end
-part-put-duration-end c = le-refl _
 
 put-duration-requires : tie.Need-put-duration-requires
 put-duration-requires c κs =
@@ -199,32 +157,7 @@ returns c =
 pub put-origin-spec : {M : Type 1} → statement M
 put-origin-spec =
     tie.close
-    (tie.spec
-    slice-aggregate-put-count
-    put-count-requires
-    sub-put-count
-    part-put-count-start
-    part-put-count-end
-    slice-aggregate-put-count-2
-    cast-put-count
-    put-count-requires-2
-    add-b
-    sub-put-count-2
-    part-put-count-start-2
-    part-put-count-end-2
-    slice-aggregate-put-count-3
-    put-count-requires-3
-    add-c
-    sub-put
-    part-put-start
-    part-put-end
-    slice-aggregate-put
-    put-requires
-    add-d
-    sub-put-duration
-    part-put-duration-start
-    part-put-duration-end
-    put-duration-requires
-    add-result
-    same-length
-    returns)
+    (tie.spec (λ c. refl) (λ c κs. room₁ (c .before .before .before)) sub-put-count (λ c. sub-put-count c) (λ c. le-refl _) (λ c. refl)
+    (λ c. search needs) put-count-requires-2 add-b sub-put-count-2 (λ c. sub-put-count-2 c) (λ c. le-refl _) (λ c. refl) put-count-requires-3 add-c
+    sub-put (λ c. sub-put c) (λ c. le-refl _) (λ c. refl) put-requires add-d sub-put-duration (λ c. sub-put-duration c) (λ c. le-refl _)
+    put-duration-requires add-result same-length returns)

@@ -42,23 +42,11 @@ room₂ e = room-left (s₁ e ++ s₂ e) (s₃ e) (room₃ e)
 room₁ : (e : tie.Start) → length (s₁ e) ≤ length (e .args .dst .now)
 room₁ e = room-left (s₁ e) (s₂ e) (room₂ e)
 
-slice-aggregate-put : tie.Need-slice-aggregate-put
-slice-aggregate-put c = refl
-
-put-requires : tie.Need-put-requires
-put-requires c κs = room₁ (c .before .before .before)
-
 sub-put-flags : tie.Need-sub-put-flags
 sub-put-flags c =
     let e = c .before .before .before .before .before .before in
     let p₁ = c .before .before .put .ensures in
     put-in _ _ p₁ (room₁ e)
-
-part-put-flags-start : tie.Need-part-put-flags-start
-part-put-flags-start c = sub-put-flags c
-
-part-put-flags-end : tie.Need-part-put-flags-end
-part-put-flags-end c = le-refl _
 
 put-flags-requires : tie.Need-put-flags-requires
 put-flags-requires c κs =
@@ -78,12 +66,6 @@ sub-put-origin c =
     let p₁ = c .before .before .before .before .before .before .put .ensures in
     let p₂ = put-then _ _ p₁ (s₂ e) (room₂ e) (c .before .before .put-flags .ensures) in
     put-in _ _ p₂ (room₂ e)
-
-part-put-origin-start : tie.Need-part-put-origin-start
-part-put-origin-start c = sub-put-origin c
-
-part-put-origin-end : tie.Need-part-put-origin-end
-part-put-origin-end c = le-refl _
 
 put-origin-requires : tie.Need-put-origin-requires
 put-origin-requires c κs =
@@ -106,12 +88,6 @@ sub-put-hazard c =
     let p₂ = put-then _ _ p₁ (s₂ e) (room₂ e) (c .before .before .before .before .before .before .put-flags .ensures) in
     let p₃ = put-then _ _ p₂ (s₃ e) (room₃ e) (c .before .before .put-origin .ensures) in
     put-in _ _ p₃ (room₃ e)
-
-part-put-hazard-start : tie.Need-part-put-hazard-start
-part-put-hazard-start c = sub-put-hazard c
-
-part-put-hazard-end : tie.Need-part-put-hazard-end
-part-put-hazard-end c = le-refl _
 
 put-hazard-requires : tie.Need-put-hazard-requires
 put-hazard-requires c κs =
@@ -137,15 +113,6 @@ sub-put c =
     let p₃ = put-then _ _ p₂ (s₃ e) (room₃ e) (c .before .before .before .before .before .before .put-origin .ensures) in
     let p₄ = put-then _ _ p₃ (s₄ e) (room₄ e) (c .before .before .put-hazard .ensures) in
     put-in _ _ p₄ (room₄ e)
-
-part-put-start : tie.Need-part-put-start
-part-put-start c = sub-put c
-
-part-put-end : tie.Need-part-put-end
-part-put-end c = le-refl _
-
-slice-aggregate-put-2 : tie.Need-slice-aggregate-put-2
-slice-aggregate-put-2 c = refl
 
 put-requires-2 : tie.Need-put-requires-2
 put-requires-2 c κs =
@@ -188,29 +155,6 @@ returns c =
 pub put-warn-spec : {M : Type 1} → statement M
 put-warn-spec =
     tie.close
-    (tie.spec
-    slice-aggregate-put
-    put-requires
-    sub-put-flags
-    part-put-flags-start
-    part-put-flags-end
-    put-flags-requires
-    add-b
-    sub-put-origin
-    part-put-origin-start
-    part-put-origin-end
-    put-origin-requires
-    add-c
-    sub-put-hazard
-    part-put-hazard-start
-    part-put-hazard-end
-    put-hazard-requires
-    add-d
-    sub-put
-    part-put-start
-    part-put-end
-    slice-aggregate-put-2
-    put-requires-2
-    add-result
-    same-length
-    returns)
+    (tie.spec (λ c. refl) (λ c κs. room₁ (c .before .before .before)) sub-put-flags (λ c. sub-put-flags c) (λ c. le-refl _) put-flags-requires add-b
+    sub-put-origin (λ c. sub-put-origin c) (λ c. le-refl _) put-origin-requires add-c sub-put-hazard (λ c. sub-put-hazard c) (λ c. le-refl _)
+    put-hazard-requires add-d sub-put (λ c. sub-put c) (λ c. le-refl _) (λ c. refl) put-requires-2 add-result same-length returns)

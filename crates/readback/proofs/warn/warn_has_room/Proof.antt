@@ -7,18 +7,10 @@ use borrow.Author.Tests.{le-leb}
 use Rattle.readback.proofs.warn.warn_has_room.Statement.{statement}
 use Rattle.readback.proofs.warn.warn_has_room.Tie as tie
 
-returns : tie.Need-returns
-returns c = sym (le-leb _ _ (le-trans (c .before .pre) (c .if1 .taken)))
-
-slice-aggregate-put-warn : tie.Need-slice-aggregate-put-warn
-slice-aggregate-put-warn c = refl
-
-put-warn-requires : tie.Need-put-warn-requires
-put-warn-requires c κs = c .before .before .pre
-
 returns-2 : tie.Need-returns-2
 returns-2 c = ap (λ (n : ℕ). leb n (c .before .before .before .before .args .room)) (c .before .put-warn .ensures .size)
 
 pub warn-has-room-spec : {M : Type 1} → statement M
 warn-has-room-spec =
-    tie.close (tie.spec returns slice-aggregate-put-warn put-warn-requires returns-2)
+    tie.close
+    (tie.spec (λ c. sym (le-leb _ _ (le-trans (c .before .pre) (c .if1 .taken)))) (λ c. refl) (λ c κs. c .before .before .pre) returns-2)

@@ -6,12 +6,6 @@ use Rattle.reader.proofs.CapSteps.{at-status, at-scope, at-sender, at-n
 use Rattle.reader.proofs.cap.cap_at.Tie as tie
 use Rattle.reader.proofs.cap.cap_at.Statement.{statement}
 
-add-word-at : tie.Need-add-word-at
-add-word-at c = search needs
-
-word-at-requires : tie.Need-word-at-requires
-word-at-requires c κs = search needs
-
 word-behind-requires : tie.Need-word-behind-requires
 word-behind-requires c κs = let s = c .before .before in near-in _ _ _ _ (at-status (s .args .t .now) (s .args .at) (s .pre) _ (c .word-at .ensures)) 64 refl
 
@@ -23,24 +17,6 @@ word-behind-requires-3 c κs = let s = c .before .before .before .before in near
 
 word-behind-requires-4 : tie.Need-word-behind-requires-4
 word-behind-requires-4 c κs = let s = c .before .before .before .before .before in near-in _ _ _ _ (at-name (s .args .t .now) (s .args .at) (s .pre) _ (c .before .before .before .word-at .ensures) _ (c .before .before .word-behind .ensures) _ (c .before .word-behind2 .ensures) _ (c .word-behind3 .ensures)) 64 refl
-
-span-in-requires : tie.Need-span-in-requires
-span-in-requires c κs = search needs
-
-message-of-requires : tie.Need-message-of-requires
-message-of-requires c κs = search needs
-
-span-in-requires-2 : tie.Need-span-in-requires-2
-span-in-requires-2 c κs = search needs
-
-status-of-requires : tie.Need-status-of-requires
-status-of-requires c κs = search needs
-
-span-in-requires-3 : tie.Need-span-in-requires-3
-span-in-requires-3 c κs = search needs
-
-scope-of-requires : tie.Need-scope-of-requires
-scope-of-requires c κs = search needs
 
 add-parts-at : tie.Need-add-parts-at
 add-parts-at c = let s = c .before .before .before .before .before .before .before .before .before .before .before .before .before in near-fits _ _ _ _ (at-parts (s .args .t .now) (s .args .at) (s .pre) _ (c .before .before .before .before .before .before .before .before .before .before .before .word-at .ensures) _ (c .before .before .before .before .before .before .before .before .before .before .word-behind .ensures) _ (c .before .before .before .before .before .before .before .before .before .word-behind2 .ensures) _ (c .before .before .before .before .before .before .before .before .word-behind3 .ensures) _ (c .before .before .before .before .before .before .before .word-behind4 .ensures)) refl (s .good .0 .1)
@@ -54,19 +30,6 @@ returns c = let s = c .before .before .before .before .before .before .before .b
 pub cap-at-spec : {M : Type 1} → statement M
 cap-at-spec =
     tie.close
-    (tie.spec
-    add-word-at
-    word-at-requires
-    word-behind-requires
-    word-behind-requires-2
-    word-behind-requires-3
-    word-behind-requires-4
-    span-in-requires
-    message-of-requires
-    span-in-requires-2
-    status-of-requires
-    span-in-requires-3
-    scope-of-requires
-    add-parts-at
-    parts-at-requires
-    returns)
+    (tie.spec (λ c. search needs) (λ c κs. search needs) word-behind-requires word-behind-requires-2 word-behind-requires-3 word-behind-requires-4
+    (λ c κs. search needs) (λ c κs. search needs) (λ c κs. search needs) (λ c κs. search needs) (λ c κs. search needs) (λ c κs. search needs)
+    add-parts-at parts-at-requires returns)

@@ -4,27 +4,11 @@ use Rattle.reader.proofs.CapSteps.{lasting-unstated, lasting-seconds}
 use Rattle.reader.proofs.cap.lasting_at.Tie as tie
 use Rattle.reader.proofs.cap.lasting_at.Statement.{statement}
 
-slice-aggregate-starts-at : tie.Need-slice-aggregate-starts-at
-slice-aggregate-starts-at c = search needs
-
-starts-at-requires : tie.Need-starts-at-requires
-starts-at-requires c κs = search needs
-
 returns : tie.Need-returns
 returns c = let s = c .before .before .before .before in lasting-unstated (s .args .t .now) (s .args .at) _ (c .before .starts-at .ensures) (c .if1 .taken)
-
-read-duration-requires : tie.Need-read-duration-requires
-read-duration-requires c κs = search needs
 
 returns-2 : tie.Need-returns-2
 returns-2 c = let s = c .before .before .before .before .before in lasting-seconds (s .args .t .now) (s .args .at) _ (c .before .before .starts-at .ensures) (c .before .if1 .left) _ (c .read-duration .ensures)
 
 pub lasting-at-spec : {M : Type 1} → statement M
-lasting-at-spec =
-    tie.close
-    (tie.spec
-    slice-aggregate-starts-at
-    starts-at-requires
-    returns
-    read-duration-requires
-    returns-2)
+lasting-at-spec = tie.close (tie.spec (λ c. search needs) (λ c κs. search needs) returns (λ c κs. search needs) returns-2)

@@ -6,21 +6,9 @@ use Rattle.reader.proofs.Choices.{chosen, passed}
 use Rattle.reader.proofs.codes.scope_of.Tie as tie
 use Rattle.reader.proofs.codes.scope_of.Statement.{statement}
 
-slice-aggregate-equals : tie.Need-slice-aggregate-equals
-slice-aggregate-equals c = search needs
-
-equals-requires : tie.Need-equals-requires
-equals-requires c κs = search needs
-
 returns : tie.Need-returns
 unfolding scopeOf
 returns c = chosen _ _ _ _ (c .before .equals .ensures) (c .if1 .taken)
-
-slice-aggregate-equals-2 : tie.Need-slice-aggregate-equals-2
-slice-aggregate-equals-2 c = search needs
-
-equals-requires-2 : tie.Need-equals-requires-2
-equals-requires-2 c κs = search needs
 
 returns-2 : tie.Need-returns-2
 unfolding scopeOf
@@ -31,13 +19,4 @@ unfolding scopeOf
 returns-3 c = passed _ _ _ _ (c .before .before .before .before .equals .ensures) _ (c .before .before .before .if1 .left) (passed _ _ _ _ (c .before .equals2 .ensures) _ (c .if2 .left) refl)
 
 pub scope-of-spec : {M : Type 1} → statement M
-scope-of-spec =
-    tie.close
-    (tie.spec
-    slice-aggregate-equals
-    equals-requires
-    returns
-    slice-aggregate-equals-2
-    equals-requires-2
-    returns-2
-    returns-3)
+scope-of-spec = tie.close (tie.spec (λ c. search needs) (λ c κs. search needs) returns (λ c. search needs) (λ c κs. search needs) returns-2 returns-3)

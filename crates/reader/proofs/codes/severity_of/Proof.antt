@@ -6,41 +6,17 @@ use Rattle.reader.proofs.Choices.{chosen, passed}
 use Rattle.reader.proofs.codes.severity_of.Tie as tie
 use Rattle.reader.proofs.codes.severity_of.Statement.{statement}
 
-slice-aggregate-equals : tie.Need-slice-aggregate-equals
-slice-aggregate-equals c = search needs
-
-equals-requires : tie.Need-equals-requires
-equals-requires c κs = search needs
-
 returns : tie.Need-returns
 unfolding severityOf
 returns c = chosen _ _ _ _ (c .before .equals .ensures) (c .if1 .taken)
-
-slice-aggregate-equals-2 : tie.Need-slice-aggregate-equals-2
-slice-aggregate-equals-2 c = search needs
-
-equals-requires-2 : tie.Need-equals-requires-2
-equals-requires-2 c κs = search needs
 
 returns-2 : tie.Need-returns-2
 unfolding severityOf
 returns-2 c = passed _ _ _ _ (c .before .before .before .before .equals .ensures) _ (c .before .before .before .if1 .left) (chosen _ _ _ _ (c .before .equals2 .ensures) (c .if2 .taken))
 
-slice-aggregate-equals-3 : tie.Need-slice-aggregate-equals-3
-slice-aggregate-equals-3 c = search needs
-
-equals-requires-3 : tie.Need-equals-requires-3
-equals-requires-3 c κs = search needs
-
 returns-3 : tie.Need-returns-3
 unfolding severityOf
 returns-3 c = passed _ _ _ _ (c .before .before .before .before .before .before .before .equals .ensures) _ (c .before .before .before .before .before .before .if1 .left) (passed _ _ _ _ (c .before .before .before .before .equals2 .ensures) _ (c .before .before .before .if2 .left) (chosen _ _ _ _ (c .before .equals3 .ensures) (c .if3 .taken)))
-
-slice-aggregate-equals-4 : tie.Need-slice-aggregate-equals-4
-slice-aggregate-equals-4 c = search needs
-
-equals-requires-4 : tie.Need-equals-requires-4
-equals-requires-4 c κs = search needs
 
 returns-4 : tie.Need-returns-4
 unfolding severityOf
@@ -53,17 +29,5 @@ returns-5 c = passed _ _ _ _ (c .before .before .before .before .before .before 
 pub severity-of-spec : {M : Type 1} → statement M
 severity-of-spec =
     tie.close
-    (tie.spec
-    slice-aggregate-equals
-    equals-requires
-    returns
-    slice-aggregate-equals-2
-    equals-requires-2
-    returns-2
-    slice-aggregate-equals-3
-    equals-requires-3
-    returns-3
-    slice-aggregate-equals-4
-    equals-requires-4
-    returns-4
-    returns-5)
+    (tie.spec (λ c. search needs) (λ c κs. search needs) returns (λ c. search needs) (λ c κs. search needs) returns-2 (λ c. search needs)
+    (λ c κs. search needs) returns-3 (λ c. search needs) (λ c κs. search needs) returns-4 returns-5)

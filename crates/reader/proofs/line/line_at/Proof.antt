@@ -7,26 +7,11 @@ use Rattle.reader.proofs.Exact.{room-for, line-sentence, line-differs, 
 use Rattle.reader.proofs.line.line_at.Tie as tie
 use Rattle.reader.proofs.line.line_at.Statement.{statement}
 
-found-at-requires : tie.Need-found-at-requires
-found-at-requires c κs = search needs
-
-slice-aggregate-write-found : tie.Need-slice-aggregate-write-found
-slice-aggregate-write-found c = search needs
-
-write-found-requires : tie.Need-write-found-requires
-write-found-requires c κs = search needs
-
-enum-known-n : tie.Need-enum-known-n
-enum-known-n c = search needs
-
 array-share-prefix-own : tie.Need-array-share-prefix-own
 array-share-prefix-own c = room-for _ _ (omega arith) _ _ (sym (c .before .before .before .before .write-found .ensures .0) ∙ c .before .n .given .1) (c .before .before .before .before .write-found .ensures .1)
 
 slice-aggregate-starts-at : tie.Need-slice-aggregate-starts-at
 slice-aggregate-starts-at c = sym (length-take-le _ _ (room-for _ _ (omega arith) _ _ (sym (c .before .before .before .before .before .write-found .ensures .0) ∙ c .before .before .n .given .1) (c .before .before .before .before .before .write-found .ensures .1)))
-
-starts-at-requires : tie.Need-starts-at-requires
-starts-at-requires c κs = search needs
 
 returns : tie.Need-returns
 returns c = line-sentence (c .before .before .before .before .before .before .before .before .before .before .before .args .t .now) (c .before .before .before .before .before .before .before .before .before .before .before .args .at) _ (c .before .before .before .before .before .before .before .before .before .found-at .ensures) _ (omega arith) _ (sym (c .before .before .before .before .before .before .before .write-found .ensures .0) ∙ c .before .before .before .before .n .given .1) _ (c .before .before .before .before .before .before .before .write-found .ensures .1) _ (c .before .starts-at .ensures) (c .if1 .taken)
@@ -40,26 +25,11 @@ enum-told c = search needs
 returns-3 : tie.Need-returns-3
 returns-3 c = line-range (c .before .before .before .before .before .before .before .args .t .now) (c .before .before .before .before .before .before .before .args .at) _ (c .before .before .before .before .before .found-at .ensures) _ (omega arith) (sym (c .before .before .before .write-found .ensures .0) ∙ c .enum-told .given .1)
 
-enum-told-2 : tie.Need-enum-told-2
-enum-told-2 c = search needs
-
 returns-4 : tie.Need-returns-4
 returns-4 c = line-room (c .before .before .before .before .before .before .before .args .t .now) (c .before .before .before .before .before .before .before .args .at) _ (c .before .before .before .before .before .found-at .ensures) _ (omega arith) (sym (c .before .before .before .write-found .ensures .0) ∙ c .enum-told2 .given .1)
 
 pub line-at-spec : {M : Type 1} → statement M
 line-at-spec =
     tie.close
-    (tie.spec
-    found-at-requires
-    slice-aggregate-write-found
-    write-found-requires
-    enum-known-n
-    array-share-prefix-own
-    slice-aggregate-starts-at
-    starts-at-requires
-    returns
-    returns-2
-    enum-told
-    returns-3
-    enum-told-2
-    returns-4)
+    (tie.spec (λ c κs. search needs) (λ c. search needs) (λ c κs. search needs) (λ c. search needs) array-share-prefix-own slice-aggregate-starts-at
+    (λ c κs. search needs) returns returns-2 enum-told returns-3 (λ c. search needs) returns-4)

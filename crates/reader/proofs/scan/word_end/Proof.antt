@@ -14,20 +14,8 @@ Inv-loop t at i₀ i = i + wordLength (drop i t) ≡ at + wordLength (drop at t)
 abbrev μ-loop : tie.MeasureT-loop
 μ-loop t at i₀ i = length t - i
 
-loop-holds : tie.Need-loop-holds Inv-loop μ-loop
-loop-holds c = refl
-
-shared-slice-read-if1 : tie.Need-shared-slice-read-if1 Inv-loop μ-loop
-shared-slice-read-if1 c = c .before .loop-test .taken
-
 returns : tie.Need-returns Inv-loop μ-loop
 returns c = sym (word-stop _ _ (c .before .before .loop-test .taken) (c .if1 .taken)) ∙ c .before .before .before .loop .inv
-
-add-i : tie.Need-add-i Inv-loop μ-loop
-add-i c = omega arith
-
-loop-less : tie.Need-loop-less Inv-loop μ-loop
-loop-less c = omega arith
 
 loop-again : tie.Need-loop-again Inv-loop μ-loop
 loop-again c = sym (word-on _ _ (c .before .before .loop-test .taken) (c .if1 .left)) ∙ c .before .before .before .loop .inv
@@ -38,13 +26,4 @@ returns-2 c = sym (word-none _ _ (c .loop-test .left)) ∙ c .before .loop .inv
 pub word-end-spec : {M : Type 1} → statement M
 word-end-spec =
     tie.close
-    (tie.spec
-    Inv-loop
-    μ-loop
-    loop-holds
-    shared-slice-read-if1
-    returns
-    add-i
-    loop-less
-    loop-again
-    returns-2)
+    (tie.spec Inv-loop μ-loop (λ c. refl) (λ c. c .before .loop-test .taken) returns (λ c. omega arith) (λ c. omega arith) loop-again returns-2)

@@ -10,20 +10,14 @@ Inv-loop n k₀ rest₀ k rest = Counted n k rest
 abbrev μ-loop : tie.MeasureT-loop
 μ-loop n k₀ rest₀ k rest = rest
 
-loop-holds : tie.Need-loop-holds Inv-loop μ-loop
-loop-holds c = counted-one _ (omega arith)
-
 add-k : tie.Need-add-k Inv-loop μ-loop
 add-k c = omega (arith, counted-below _ _ _ (c .before .loop .inv) (c .loop-test .taken))
-
-loop-less : tie.Need-loop-less Inv-loop μ-loop
-loop-less c = omega arith
 
 loop-again : tie.Need-loop-again Inv-loop μ-loop
 loop-again c = counted-more _ _ _ (c .before .loop .inv) (c .loop-test .taken)
 
-returns : tie.Need-returns Inv-loop μ-loop
-returns c = counted-all _ _ _ (c .before .loop .inv) (omega arith)
-
 pub digit-count-spec : {M : Type 1} → statement M
-digit-count-spec = tie.close (tie.spec Inv-loop μ-loop loop-holds add-k loop-less loop-again returns)
+digit-count-spec =
+    tie.close
+    (tie.spec Inv-loop μ-loop (λ c. counted-one _ (omega arith)) add-k (λ c. omega arith) loop-again
+    (λ c. counted-all _ _ _ (c .before .loop .inv) (omega arith)))

@@ -14,32 +14,17 @@ Inv-loop buffer₀ at n k rest₀ i₀ buffer rest i = (i ≤ k) × (length buff
 abbrev μ-loop : tie.MeasureT-loop
 μ-loop buffer₀ at n k rest₀ i₀ buffer rest i = i
 
-digit-count-requires : tie.Need-digit-count-requires Inv-loop μ-loop
-digit-count-requires c κs = tt
-
 loop-holds : tie.Need-loop-holds Inv-loop μ-loop
 loop-holds c =
     let a = c .before .before .args in
     let k = c .digit-count .ensures in
     (omega arith, refl, filled-none _ _ _ _ _ k (rw (← k) at (digits-last 20 (a .n))))
 
-sub-i : tie.Need-sub-i Inv-loop μ-loop
-sub-i c = omega arith
-
-cast-buffer : tie.Need-cast-buffer Inv-loop μ-loop
-cast-buffer c = omega arith
-
-add-buffer : tie.Need-add-buffer Inv-loop μ-loop
-add-buffer c = omega arith
-
 add-buffer-2 : tie.Need-add-buffer-2 Inv-loop μ-loop
 add-buffer-2 c = let h = digits-le 20 (c .before .before .before .before .args .n) in omega arith
 
 slice-write-buffer : tie.Need-slice-write-buffer Inv-loop μ-loop
 slice-write-buffer c = let h = digits-le 20 (c .before .before .before .before .args .n) in omega arith
-
-loop-less : tie.Need-loop-less Inv-loop μ-loop
-loop-less c = omega arith
 
 loop-again : tie.Need-loop-again Inv-loop μ-loop
 loop-again c =
@@ -50,27 +35,11 @@ loop-again c =
 add-result : tie.Need-add-result Inv-loop μ-loop
 add-result c = let h = digits-le 20 (c .before .before .before .before .args .n) in omega arith
 
-same-length : tie.Need-same-length Inv-loop μ-loop
-same-length c = c .before .loop .inv .1
-
 returns : tie.Need-returns Inv-loop μ-loop
 returns c = (rw (c .before .before .digit-count .ensures), filled-all _ _ _ _ _ _ (omega arith) (c .before .loop .inv .2))
 
 pub put-digits-spec : {M : Type 1} → statement M
 put-digits-spec =
     tie.close
-    (tie.spec
-    Inv-loop
-    μ-loop
-    digit-count-requires
-    loop-holds
-    sub-i
-    cast-buffer
-    add-buffer
-    add-buffer-2
-    slice-write-buffer
-    loop-less
-    loop-again
-    add-result
-    same-length
-    returns)
+    (tie.spec Inv-loop μ-loop (λ c κs. tt) loop-holds (λ c. omega arith) (λ c. omega arith) (λ c. omega arith) add-buffer-2 slice-write-buffer
+    (λ c. omega arith) loop-again add-result (λ c. c .before .loop .inv .1) returns)

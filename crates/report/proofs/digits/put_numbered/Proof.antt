@@ -5,17 +5,8 @@ use Rattle.report.proofs.Behind.{adds-then}
 use Rattle.report.proofs.digits.put_numbered.Statement.{statement}
 use Rattle.report.proofs.digits.put_numbered.Tie as tie
 
-put-requires : tie.Need-put-requires
-put-requires c κs = search needs
-
-put-digits-requires : tie.Need-put-digits-requires
-put-digits-requires c κs = search needs
-
-same-length : tie.Need-same-length
-same-length c = search needs
-
 returns : tie.Need-returns
 returns c = adds-then _ _ _ _ _ (c .before .before .before .before .before .before .put .ensures) _ _ _ (omega arith) (c .before .before .put-digits .ensures)
 
 pub put-numbered-spec : {M : Type 1} → statement M
-put-numbered-spec = tie.close (tie.spec put-requires put-digits-requires same-length returns)
+put-numbered-spec = tie.close (tie.spec (λ c κs. search needs) (λ c κs. search needs) (λ c. search needs) returns)

@@ -13,14 +13,8 @@ Inv-loop buffer₀ s first many at₀ part₀ left₀ buffer at part left = Left
 abbrev μ-loop : tie.MeasureT-loop
 μ-loop buffer₀ s first many at₀ part₀ left₀ buffer at part left = left
 
-loop-holds : tie.Need-loop-holds Inv-loop μ-loop
-loop-holds c = left-all _ _ _ _
-
 write-part-requires : tie.Need-write-part-requires Inv-loop μ-loop
 write-part-requires c κs = let p = c .before .before .loop .inv in omega (arith, p .room, p .same)
-
-same-length : tie.Need-same-length Inv-loop μ-loop
-same-length c = search needs
 
 returns : tie.Need-returns Inv-loop μ-loop
 returns c =
@@ -30,20 +24,11 @@ returns c =
 add-part : tie.Need-add-part Inv-loop μ-loop
 add-part c = omega (arith, c .before .before .before .before .before .before .before .loop .inv .parts)
 
-sub-left : tie.Need-sub-left Inv-loop μ-loop
-sub-left c = omega arith
-
-loop-less : tie.Need-loop-less Inv-loop μ-loop
-loop-less c = omega arith
-
 loop-again : tie.Need-loop-again Inv-loop μ-loop
 loop-again c =
     let w = c .before .before .before .before .write-part .ensures in
     let p = c .before .before .before .before .before .before .before .loop .inv in
     left-next _ _ _ _ _ _ _ _ p _ _ (c .before .before .before .before .before .before .loop-test .taken) (sym (w .2) ∙ not-false _ (c .if1 .left)) (w .0, w .1) (omega (arith, p .room, p .same))
-
-same-length-2 : tie.Need-same-length-2 Inv-loop μ-loop
-same-length-2 c = c .before .loop .inv .same
 
 returns-2 : tie.Need-returns-2 Inv-loop μ-loop
 returns-2 c = left-none _ _ _ _ _ _ _ _ (c .before .loop .inv) (omega arith)
@@ -51,16 +36,5 @@ returns-2 c = left-none _ _ _ _ _ _ _ _ (c .before .loop .inv) (omega arith)
 pub write-parts-spec : {M : Type 1} → statement M
 write-parts-spec =
     tie.close
-    (tie.spec
-    Inv-loop
-    μ-loop
-    loop-holds
-    write-part-requires
-    same-length
-    returns
-    add-part
-    sub-left
-    loop-less
-    loop-again
-    same-length-2
-    returns-2)
+    (tie.spec Inv-loop μ-loop (λ c. left-all _ _ _ _) write-part-requires (λ c. search needs) returns add-part (λ c. omega arith) (λ c. omega arith)
+    loop-again (λ c. c .before .loop .inv .same) returns-2)

@@ -16,17 +16,8 @@ Inv-loop class t range i₀ i = (range .from ≤ i) × (find (i - range .from + 
 abbrev μ-loop : tie.MeasureT-loop
 μ-loop class t range i₀ i = range .end - i
 
-range-of-requires : tie.Need-range-of-requires Inv-loop μ-loop
-range-of-requires c κs = search needs
-
-loop-holds : tie.Need-loop-holds Inv-loop μ-loop
-loop-holds c = (omega arith, found-in _ _ _ _ (c .range-of .ensures .1))
-
 is-code-requires : tie.Need-is-code-requires Inv-loop μ-loop
 is-code-requires c κs = omega (arith, c .before .before .before .range-of .ensures .0)
-
-sub-result : tie.Need-sub-result Inv-loop μ-loop
-sub-result c = c .before .before .before .before .before .loop .inv .0
 
 add-result : tie.Need-add-result Inv-loop μ-loop
 add-result c = omega (arith, c .before .before .before .before .before .before .range-of .ensures .0)
@@ -40,9 +31,6 @@ returns c =
 
 add-i : tie.Need-add-i Inv-loop μ-loop
 add-i c = omega (arith, c .before .before .before .before .before .range-of .ensures .0)
-
-loop-less : tie.Need-loop-less Inv-loop μ-loop
-loop-less c = omega arith
 
 loop-again : tie.Need-loop-again Inv-loop μ-loop
 loop-again c =
@@ -59,16 +47,5 @@ returns-2 c = sym (found-nowhere _ _ _ _ (c .if1 .left)) ∙ c .before .before .
 pub code-of-spec : {M : Type 1} → statement M
 code-of-spec =
     tie.close
-    (tie.spec
-    Inv-loop
-    μ-loop
-    range-of-requires
-    loop-holds
-    is-code-requires
-    sub-result
-    add-result
-    returns
-    add-i
-    loop-less
-    loop-again
-    returns-2)
+    (tie.spec Inv-loop μ-loop (λ c κs. search needs) (λ c. (omega arith, found-in _ _ _ _ (c .range-of .ensures .1))) is-code-requires
+    (λ c. c .before .before .before .before .before .loop .inv .0) add-result returns add-i (λ c. omega arith) loop-again returns-2)

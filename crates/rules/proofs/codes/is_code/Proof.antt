@@ -6,21 +6,6 @@ use Rattle.rules.proofs.Spelling.{text, starts, starts-within, starts-o
 use Rattle.rules.proofs.codes.is_code.Statement.{statement}
 use Rattle.rules.proofs.codes.is_code.Tie as tie
 
-mul-start : tie.Need-mul-start
-mul-start c = search needs
-
-array-read-start : tie.Need-array-read-start
-array-read-start c = search needs
-
-add-end : tie.Need-add-end
-add-end c = search needs
-
-mul-end : tie.Need-mul-end
-mul-end c = search needs
-
-array-read-end : tie.Need-array-read-end
-array-read-end c = search needs
-
 sub-equals : tie.Need-sub-equals
 unfolding text starts
 sub-equals c = starts-order (c .before .args .i) (c .before .pre)
@@ -33,9 +18,6 @@ part-equals-end : tie.Need-part-equals-end
 unfolding text starts
 part-equals-end c = starts-within (c .before .before .args .i) (c .before .before .pre)
 
-equals-requires : tie.Need-equals-requires
-equals-requires c κs = search needs
-
 returns : tie.Need-returns
 unfolding text starts
 returns c =
@@ -45,14 +27,5 @@ returns c =
 pub is-code-spec : {M : Type 1} → statement M
 is-code-spec =
     tie.close
-    (tie.spec
-    mul-start
-    array-read-start
-    add-end
-    mul-end
-    array-read-end
-    sub-equals
-    part-equals-start
-    part-equals-end
-    equals-requires
-    returns)
+    (tie.spec (λ c. search needs) (λ c. search needs) (λ c. search needs) (λ c. search needs) (λ c. search needs) sub-equals part-equals-start
+    part-equals-end (λ c κs. search needs) returns)

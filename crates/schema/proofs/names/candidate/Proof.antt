@@ -13,24 +13,6 @@ returns c = (omega arith, λ h. absurd (omega (arith, not-short (c .before .args
 returns-2 : tie.Need-returns-2
 returns-2 c = (omega arith, λ h. absurd (omega (arith, not-long (c .before .before .args .t .now) h)))
 
-shared-slice-read-first : tie.Need-shared-slice-read-first
-shared-slice-read-first c = search needs
-
-cast-first : tie.Need-cast-first
-cast-first c = omega (arith, c .shared-slice-known .given 0)
-
-shared-slice-read-third : tie.Need-shared-slice-read-third
-shared-slice-read-third c = search needs
-
-cast-third : tie.Need-cast-third
-cast-third c = omega (arith, c .shared-slice-known2 .given 2)
-
-sub-last : tie.Need-sub-last
-sub-last c = search needs
-
-shared-slice-read-last : tie.Need-shared-slice-read-last
-shared-slice-read-last c = search needs
-
 cast-last : tie.Need-cast-last
 cast-last c = omega (arith, c .shared-slice-known3 .given (length (c .before .before .before .before .before .args .t .now) - 1))
 
@@ -39,9 +21,6 @@ add-result c = omega (arith, c .shared-slice-known3 .given 0, c .before .before 
 
 mul-result : tie.Need-mul-result
 mul-result c = omega (arith, c .shared-slice-known3 .given 0, c .before .before .before .if2 .left)
-
-mul-result-2 : tie.Need-mul-result-2
-mul-result-2 c = omega (arith, c .shared-slice-known3 .given 2)
 
 add-result-2 : tie.Need-add-result-2
 add-result-2 c = let b = c .shared-slice-known3 .given in omega (arith, b 0, b 2, c .before .before .before .if2 .left)
@@ -54,35 +33,14 @@ add-result-3 c =
     let b = c .shared-slice-known3 .given in
     omega (arith, b 0, b 2, b (length (c .before .before .before .before .before .args .t .now) - 1), c .before .before .before .if2 .left)
 
-array-read-result : tie.Need-array-read-result
-array-read-result c = search needs
-
 returns-3 : tie.Need-returns-3
 unfolding hashed
 returns-3 c = let t = c .before .before .before .before .before .args .t .now in (found-low t, found-class t)
 
-cast-result : tie.Need-cast-result
-cast-result c = class-fits _ (returns-3 c .0)
-
 pub candidate-spec : {M : Type 1} → statement M
 candidate-spec =
     tie.close
-    (tie.spec
-    returns
-    returns-2
-    shared-slice-read-first
-    cast-first
-    shared-slice-read-third
-    cast-third
-    sub-last
-    shared-slice-read-last
-    cast-last
-    add-result
-    mul-result
-    mul-result-2
-    add-result-2
-    mul-result-3
-    add-result-3
-    array-read-result
-    cast-result
-    returns-3)
+    (tie.spec returns returns-2 (λ c. search needs) (λ c. omega (arith, c .shared-slice-known .given 0)) (λ c. search needs)
+    (λ c. omega (arith, c .shared-slice-known2 .given 2)) (λ c. search needs) (λ c. search needs) cast-last add-result mul-result
+    (λ c. omega (arith, c .shared-slice-known3 .given 2)) add-result-2 mul-result-3 add-result-3 (λ c. search needs)
+    (λ c. class-fits _ (returns-3 c .0)) returns-3)

@@ -6,12 +6,6 @@ use Rattle.schema.proofs.Hash.{other-name}
 use Rattle.schema.proofs.names.class_of.Statement.{statement}
 use Rattle.schema.proofs.names.class_of.Tie as tie
 
-candidate-requires : tie.Need-candidate-requires
-candidate-requires c κs = search needs
-
-is-named-requires : tie.Need-is-named-requires
-is-named-requires c κs = search needs
-
 returns : tie.Need-returns
 returns c =
     let w = c .before .before .candidate in
@@ -23,4 +17,4 @@ returns-2 c =
     other-name _ (w .result) (w .ensures .1) (sym (c .before .is-named .ensures) ∙ c .if1 .left)
 
 pub class-of-spec : {M : Type 1} → statement M
-class-of-spec = tie.close (tie.spec candidate-requires is-named-requires returns returns-2)
+class-of-spec = tie.close (tie.spec (λ c κs. search needs) (λ c κs. search needs) returns returns-2)

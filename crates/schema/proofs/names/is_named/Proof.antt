@@ -9,24 +9,9 @@ use Rattle.schema.proofs.names.is_named.Tie as tie
 returns : tie.Need-returns
 returns c = let a = c .before .before .args in no-name (a .t .now) (a .class) (c .if1 .taken)
 
-mul-start : tie.Need-mul-start
-mul-start c = search needs
-
-array-read-start : tie.Need-array-read-start
-array-read-start c = search needs
-
 cast-start : tie.Need-cast-start
 unfolding starts
 cast-start c = start-fits (c .before .before .args .class) (c .if1 .left)
-
-add-end : tie.Need-add-end
-add-end c = search needs
-
-mul-end : tie.Need-mul-end
-mul-end c = search needs
-
-array-read-end : tie.Need-array-read-end
-array-read-end c = search needs
 
 cast-end : tie.Need-cast-end
 unfolding starts
@@ -44,9 +29,6 @@ part-equals-end : tie.Need-part-equals-end
 unfolding text starts
 part-equals-end c = starts-within (c .before .before .before .args .class) (c .before .if1 .left)
 
-equals-requires : tie.Need-equals-requires
-equals-requires c κs = search needs
-
 returns-2 : tie.Need-returns-2
 unfolding text starts
 returns-2 c =
@@ -57,17 +39,5 @@ returns-2 c =
 pub is-named-spec : {M : Type 1} → statement M
 is-named-spec =
     tie.close
-    (tie.spec
-    returns
-    mul-start
-    array-read-start
-    cast-start
-    add-end
-    mul-end
-    array-read-end
-    cast-end
-    sub-equals
-    part-equals-start
-    part-equals-end
-    equals-requires
-    returns-2)
+    (tie.spec returns (λ c. search needs) (λ c. search needs) cast-start (λ c. search needs) (λ c. search needs) (λ c. search needs) cast-end
+    sub-equals part-equals-start part-equals-end (λ c κs. search needs) returns-2)

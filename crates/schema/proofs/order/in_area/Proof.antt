@@ -8,51 +8,15 @@ use Rattle.schema.proofs.Rows.{next-fits}
 use Rattle.schema.proofs.order.in_area.Statement.{statement}
 use Rattle.schema.proofs.order.in_area.Tie as tie
 
-mul-result : tie.Need-mul-result
-mul-result c = search needs
-
-index-1-result : tie.Need-index-1-result
-index-1-result c = search needs
-
-index-2-result : tie.Need-index-2-result
-index-2-result c = search needs
-
 returns : tie.Need-returns
 returns c =
     let s = c .before .before in
     rw (eq-eqb _ 0 (c .before .if1 .taken)) at (in-area-is (s .args .state) (s .args .class) (s .pre))
 
-cast-result : tie.Need-cast-result
-cast-result c = next-fits _ _ _ (returns c)
-
-mul-result-2 : tie.Need-mul-result-2
-mul-result-2 c = search needs
-
-index-1-result-2 : tie.Need-index-1-result-2
-index-1-result-2 c = search needs
-
-index-2-result-2 : tie.Need-index-2-result-2
-index-2-result-2 c = search needs
-
 returns-2 : tie.Need-returns-2
 returns-2 c =
     let s = c .before .before .before in
     rw (ne-eqb _ 0 (c .before .before .if1 .left), eq-eqb _ class.geocode (c .before .if2 .taken)) at (in-area-is (s .args .state) (s .args .class) (s .pre))
-
-cast-result-2 : tie.Need-cast-result-2
-cast-result-2 c = next-fits _ _ _ (returns-2 c)
-
-sub-result : tie.Need-sub-result
-sub-result c = between-low class.areaDesc class.ceiling _ (c .if3 .taken)
-
-add-result : tie.Need-add-result
-add-result c = search needs
-
-mul-result-3 : tie.Need-mul-result-3
-mul-result-3 c = search needs
-
-index-1-result-3 : tie.Need-index-1-result-3
-index-1-result-3 c = search needs
 
 index-2-result-3 : tie.Need-index-2-result-3
 index-2-result-3 c = omega (arith, between-high class.areaDesc class.ceiling (c .before .before .before .args .class) (c .if3 .taken))
@@ -62,9 +26,6 @@ returns-3 c =
     let s = c .before .before .before .before in
     rw (ne-eqb _ 0 (c .before .before .before .if1 .left), ne-eqb _ class.geocode (c .before .before .if2 .left), c .before .if3 .taken) at (in-area-is (s .args .state) (s .args .class) (s .pre))
 
-cast-result-3 : tie.Need-cast-result-3
-cast-result-3 c = next-fits _ _ _ (returns-3 c)
-
 returns-4 : tie.Need-returns-4
 returns-4 c =
     let s = c .before .before .before in
@@ -73,22 +34,7 @@ returns-4 c =
 pub in-area-spec : {M : Type 1} → statement M
 in-area-spec =
     tie.close
-    (tie.spec
-    mul-result
-    index-1-result
-    index-2-result
-    cast-result
-    returns
-    mul-result-2
-    index-1-result-2
-    index-2-result-2
-    cast-result-2
-    returns-2
-    sub-result
-    add-result
-    mul-result-3
-    index-1-result-3
-    index-2-result-3
-    cast-result-3
-    returns-3
-    returns-4)
+    (tie.spec (λ c. search needs) (λ c. search needs) (λ c. search needs) (λ c. next-fits _ _ _ (returns c)) returns (λ c. search needs)
+    (λ c. search needs) (λ c. search needs) (λ c. next-fits _ _ _ (returns-2 c)) returns-2
+    (λ c. between-low class.areaDesc class.ceiling _ (c .if3 .taken)) (λ c. search needs) (λ c. search needs) (λ c. search needs) index-2-result-3
+    (λ c. next-fits _ _ _ (returns-3 c)) returns-3 returns-4)

@@ -7,38 +7,17 @@ use Rattle.schema.proofs.Table.{no-row}
 use Rattle.schema.proofs.order.next.Statement.{statement}
 use Rattle.schema.proofs.order.next.Tie as tie
 
-in-document-requires : tie.Need-in-document-requires
-in-document-requires c κs = search needs
-
-returns : tie.Need-returns
-returns c = search needs
-
-in-alert-requires : tie.Need-in-alert-requires
-in-alert-requires c κs = search needs
-
 returns-2 : tie.Need-returns-2
 returns-2 c = let r = c .before .before .before .args .row in let e : 3 + (r - 3) ≡ r = omega arith in rw e at (c .in-alert .ensures)
-
-in-info-requires : tie.Need-in-info-requires
-in-info-requires c κs = search needs
 
 returns-3 : tie.Need-returns-3
 returns-3 c = let r = c .before .before .before .before .args .row in let e : 18 + (r - 18) ≡ r = omega arith in rw e at (c .in-info .ensures)
 
-in-resource-requires : tie.Need-in-resource-requires
-in-resource-requires c κs = search needs
-
 returns-4 : tie.Need-returns-4
 returns-4 c = let r = c .before .before .before .before .before .args .row in let e : 40 + (r - 40) ≡ r = omega arith in rw e at (c .in-resource .ensures)
 
-in-area-requires : tie.Need-in-area-requires
-in-area-requires c κs = search needs
-
 returns-5 : tie.Need-returns-5
 returns-5 c = let r = c .before .before .before .before .before .before .args .row in let e : 47 + (r - 47) ≡ r = omega arith in rw e at (c .in-area .ensures)
-
-in-pair-requires : tie.Need-in-pair-requires
-in-pair-requires c κs = search needs
 
 returns-6 : tie.Need-returns-6
 returns-6 c = let r = c .before .before .before .before .before .before .before .args .row in let e : 54 + (r - 54) ≡ r = omega arith in rw e at (c .in-pair .ensures)
@@ -49,17 +28,5 @@ returns-7 c = let s = c .before .before .before .before .before .before in no-ro
 pub next-spec : {M : Type 1} → statement M
 next-spec =
     tie.close
-    (tie.spec
-    in-document-requires
-    returns
-    in-alert-requires
-    returns-2
-    in-info-requires
-    returns-3
-    in-resource-requires
-    returns-4
-    in-area-requires
-    returns-5
-    in-pair-requires
-    returns-6
-    returns-7)
+    (tie.spec (λ c κs. search needs) (λ c. search needs) (λ c κs. search needs) returns-2 (λ c κs. search needs) returns-3 (λ c κs. search needs)
+    returns-4 (λ c κs. search needs) returns-5 (λ c κs. search needs) returns-6 returns-7)

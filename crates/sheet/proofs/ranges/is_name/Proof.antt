@@ -16,35 +16,14 @@ Inv-loop s i₀ i = (i ≤ length s) × (isClean (drop i s) ≡ isName s)
 abbrev μ-loop : tie.MeasureT-loop
 μ-loop s i₀ i = length s - i
 
-returns : tie.Need-returns Inv-loop μ-loop
-returns c = name-empty _ (c .if1 .taken)
-
-returns-2 : tie.Need-returns-2 Inv-loop μ-loop
-returns-2 c = name-long _ (c .if2 .taken)
-
 loop-holds : tie.Need-loop-holds Inv-loop μ-loop
 loop-holds c = (zero-le, sym (name-clean _ (c .before .if1 .left) (c .if2 .left)))
-
-shared-slice-read-is-name-byte : tie.Need-shared-slice-read-is-name-byte Inv-loop μ-loop
-shared-slice-read-is-name-byte c = c .before .loop-test .taken
-
-is-name-byte-requires : tie.Need-is-name-byte-requires Inv-loop μ-loop
-is-name-byte-requires c κs = search needs
 
 returns-3 : tie.Need-returns-3 Inv-loop μ-loop
 returns-3 c = sym (not-name-byte _ _ (c .before .before .before .loop-test .taken) (sym (c .before .is-name-byte .ensures) ∙ not-true _ (c .if3 .taken))) ∙ c .before .before .before .before .loop .inv .1
 
-is-cdata-end-requires : tie.Need-is-cdata-end-requires Inv-loop μ-loop
-is-cdata-end-requires c κs = search needs
-
 returns-4 : tie.Need-returns-4 Inv-loop μ-loop
 returns-4 c = sym (cdata-end _ _ (c .before .before .before .before .before .loop-test .taken) (sym (c .before .is-cdata-end .ensures) ∙ c .if4 .taken)) ∙ c .before .before .before .before .before .before .loop .inv .1
-
-add-i : tie.Need-add-i Inv-loop μ-loop
-add-i c = omega arith
-
-loop-less : tie.Need-loop-less Inv-loop μ-loop
-loop-less c = omega arith
 
 loop-again : tie.Need-loop-again Inv-loop μ-loop
 loop-again c = (omega arith, sym (name-byte _ _ (c .before .before .before .before .before .loop-test .taken) (sym (c .before .before .before .is-name-byte .ensures) ∙ not-false _ (c .before .before .if3 .left)) (sym (c .before .is-cdata-end .ensures) ∙ c .if4 .left)) ∙ c .before .before .before .before .before .before .loop .inv .1)
@@ -55,18 +34,5 @@ returns-5 c = sym (name-end _ _ (c .loop-test .left)) ∙ c .before .loop .inv .
 pub is-name-spec : {M : Type 1} → statement M
 is-name-spec =
     tie.close
-    (tie.spec
-    Inv-loop
-    μ-loop
-    returns
-    returns-2
-    loop-holds
-    shared-slice-read-is-name-byte
-    is-name-byte-requires
-    returns-3
-    is-cdata-end-requires
-    returns-4
-    add-i
-    loop-less
-    loop-again
-    returns-5)
+    (tie.spec Inv-loop μ-loop (λ c. name-empty _ (c .if1 .taken)) (λ c. name-long _ (c .if2 .taken)) loop-holds (λ c. c .before .loop-test .taken)
+    (λ c κs. search needs) returns-3 (λ c κs. search needs) returns-4 (λ c. omega arith) (λ c. omega arith) loop-again returns-5)

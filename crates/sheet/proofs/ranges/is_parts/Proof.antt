@@ -7,12 +7,6 @@ use Rattle.sheet.proofs.ranges.is_parts.Tie as tie
 enum-told : tie.Need-enum-told
 enum-told c = search needs
 
-enum-known-parts : tie.Need-enum-known-parts
-enum-known-parts c = search needs
-
-is-part-requires : tie.Need-is-part-requires
-is-part-requires c κs = tt
-
 returns : tie.Need-returns
 unfolding isParts
 returns c = rw (c .enum-told .given .1)
@@ -21,4 +15,4 @@ returns-2 : tie.Need-returns-2
 returns-2 c = rw (c .before .before .parts .given .1) (c .is-part .ensures)
 
 pub is-parts-spec : {M : Type 1} → statement M
-is-parts-spec = tie.close (tie.spec enum-told enum-known-parts is-part-requires returns returns-2)
+is-parts-spec = tie.close (tie.spec enum-told (λ c. search needs) (λ c κs. tt) returns returns-2)

@@ -5,12 +5,6 @@ use Rattle.sheet.proofs.Widths.{warn-in-range}
 use Rattle.sheet.proofs.ranges.is_warn.Statement.{statement}
 use Rattle.sheet.proofs.ranges.is_warn.Tie as tie
 
-cast-is-lasting : tie.Need-cast-is-lasting
-cast-is-lasting c = search needs
-
-is-lasting-requires : tie.Need-is-lasting-requires
-is-lasting-requires c κs = search needs
-
 returns : tie.Need-returns
 returns c =
     let g = c .before .struct-known .given .1 .1 .1 .1 in
@@ -30,4 +24,4 @@ returns c =
     })
 
 pub is-warn-spec : {M : Type 1} → statement M
-is-warn-spec = tie.close (tie.spec cast-is-lasting is-lasting-requires returns)
+is-warn-spec = tie.close (tie.spec (λ c. search needs) (λ c κs. search needs) returns)

@@ -20,16 +20,5 @@ sub-result c = dated (c .before .before .args .y) (c .before .before .args .m) (
 add-result-2 : tie.Need-add-result-2
 add-result-2 c = omega (arith, days-le (c .before .before .args .y) (c .before .before .args .m) (c .before .before .args .d) (c .before .before .pre))
 
-returns : tie.Need-returns
-returns c = search needs
-
 pub days-before-spec : {M : Type 1} → statement M
-days-before-spec =
-    tie.close
-    (tie.spec
-    days-before-year-requires
-    days-before-month-requires
-    add-result
-    sub-result
-    add-result-2
-    returns)
+days-before-spec = tie.close (tie.spec days-before-year-requires days-before-month-requires add-result sub-result add-result-2 (λ c. search needs))

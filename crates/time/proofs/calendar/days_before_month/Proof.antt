@@ -6,25 +6,11 @@ use Rattle.time.proofs.Days.{months-table, months-le}
 use Rattle.time.proofs.calendar.days_before_month.Statement.{statement}
 use Rattle.time.proofs.calendar.days_before_month.Tie as tie
 
-mul-result : tie.Need-mul-result
-mul-result c = search needs
-
-array-read-result : tie.Need-array-read-result
-array-read-result c = search needs
-
-is-leap-requires : tie.Need-is-leap-requires
-is-leap-requires c κs = search needs
-
-cast-result : tie.Need-cast-result
-cast-result c = search needs
-
 add-result : tie.Need-add-result
 add-result c = omega (arith, months-table (c .before .args .y) (c .before .args .m) (c .is-leap .result) (c .before .pre) (c .is-leap .ensures), months-le (c .before .args .y) (c .before .args .m - 1))
-
-returns : tie.Need-returns
-returns c = months-table _ _ _ (c .before .pre) (c .is-leap .ensures)
 
 pub days-before-month-spec : {M : Type 1} → statement M
 days-before-month-spec =
     tie.close
-    (tie.spec mul-result array-read-result is-leap-requires cast-result add-result returns)
+    (tie.spec (λ c. search needs) (λ c. search needs) (λ c κs. search needs) (λ c. search needs) add-result
+    (λ c. months-table _ _ _ (c .before .pre) (c .is-leap .ensures)))

@@ -5,9 +5,6 @@ use Rattle.time.proofs.Days.{month-leap, month-common, month-short, mon
 use Rattle.time.proofs.calendar.month_days.Statement.{statement}
 use Rattle.time.proofs.calendar.month_days.Tie as tie
 
-is-leap-requires : tie.Need-is-leap-requires
-is-leap-requires c κs = search needs
-
 returns : tie.Need-returns
 returns c = month-leap (c .before .before .before .args .y) _ (c .before .before .if1 .taken) (sym (c .before .is-leap .ensures) ∙ c .if2 .taken)
 
@@ -21,4 +18,4 @@ returns-4 : tie.Need-returns-4
 returns-4 c = month-long (c .before .before .args .y) _ (c .before .if1 .left) (c .if3 .left)
 
 pub month-days-spec : {M : Type 1} → statement M
-month-days-spec = tie.close (tie.spec is-leap-requires returns returns-2 returns-3 returns-4)
+month-days-spec = tie.close (tie.spec (λ c κs. search needs) returns returns-2 returns-3 returns-4)

@@ -15,24 +15,6 @@ Inv-loop form text i₀ i = hasForm (drop i form) (drop i text) ≡ hasForm form
 abbrev μ-loop : tie.MeasureT-loop
 μ-loop form text i₀ i = length form - i
 
-loop-holds : tie.Need-loop-holds Inv-loop μ-loop
-loop-holds c = refl
-
-shared-slice-read-is-form-byte : tie.Need-shared-slice-read-is-form-byte Inv-loop μ-loop
-shared-slice-read-is-form-byte c = search needs
-
-shared-slice-read-is-form-byte-2 : tie.Need-shared-slice-read-is-form-byte-2 Inv-loop μ-loop
-shared-slice-read-is-form-byte-2 c = search needs
-
-is-form-byte-requires : tie.Need-is-form-byte-requires Inv-loop μ-loop
-is-form-byte-requires c κs = search needs
-
-add-i : tie.Need-add-i Inv-loop μ-loop
-add-i c = omega arith
-
-loop-less : tie.Need-loop-less Inv-loop μ-loop
-loop-less c = omega arith
-
 loop-again : tie.Need-loop-again Inv-loop μ-loop
 loop-again c = sym (form-on _ _ _ (c .before .before .before .before .loop-test .taken) (omega arith) (sym (c .before .is-form-byte .ensures) ∙ c .if1 .taken)) ∙ c .before .before .before .before .before .loop .inv
 
@@ -45,15 +27,5 @@ returns-2 c = sym (form-end _ _ _ (c .loop-test .left) (omega arith)) ∙ c .bef
 pub has-form-spec : {M : Type 1} → statement M
 has-form-spec =
     tie.close
-    (tie.spec
-    Inv-loop
-    μ-loop
-    loop-holds
-    shared-slice-read-is-form-byte
-    shared-slice-read-is-form-byte-2
-    is-form-byte-requires
-    add-i
-    loop-less
-    loop-again
-    returns
-    returns-2)
+    (tie.spec Inv-loop μ-loop (λ c. refl) (λ c. search needs) (λ c. search needs) (λ c κs. search needs) (λ c. omega arith) (λ c. omega arith)
+    loop-again returns returns-2)

@@ -4,14 +4,8 @@ use Rattle.time.proofs.Written.{form-byte}
 use Rattle.time.proofs.form.is_form_byte.Statement.{statement}
 use Rattle.time.proofs.form.is_form_byte.Tie as tie
 
-is-digit-requires : tie.Need-is-digit-requires
-is-digit-requires c κs = search needs
-
-is-sign-requires : tie.Need-is-sign-requires
-is-sign-requires c κs = search needs
-
 returns : tie.Need-returns
 returns c = form-byte (c .before .before .args .f) (c .before .before .args .b) _ _ (c .before .is-digit .ensures) (c .is-sign .ensures)
 
 pub is-form-byte-spec : {M : Type 1} → statement M
-is-form-byte-spec = tie.close (tie.spec is-digit-requires is-sign-requires returns)
+is-form-byte-spec = tie.close (tie.spec (λ c κs. search needs) (λ c κs. search needs) returns)

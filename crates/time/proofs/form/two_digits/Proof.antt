@@ -6,23 +6,8 @@ use Rattle.time.proofs.Written.{two-digits}
 use Rattle.time.proofs.form.two_digits.Statement.{statement}
 use Rattle.time.proofs.form.two_digits.Tie as tie
 
-shared-slice-read-digit : tie.Need-shared-slice-read-digit
-shared-slice-read-digit c = search needs
-
-digit-requires : tie.Need-digit-requires
-digit-requires c κs = search needs
-
 mul-result : tie.Need-mul-result
 mul-result c = omega (arith, c .before .shared-slice-known2 .given (c .before .before .before .args .at))
-
-add-digit : tie.Need-add-digit
-add-digit c = search needs
-
-shared-slice-read-digit-2 : tie.Need-shared-slice-read-digit-2
-shared-slice-read-digit-2 c = search needs
-
-digit-requires-2 : tie.Need-digit-requires-2
-digit-requires-2 c κs = search needs
 
 add-result : tie.Need-add-result
 add-result c = omega (arith, c .before .before .before .shared-slice-known2 .given (c .before .before .before .before .before .args .at), c .before .shared-slice-known3 .given (c .before .before .before .before .before .args .at + 1))
@@ -33,12 +18,4 @@ returns c = (two-digits _ _ _ _ (c .before .before .before .before .before .pre)
 pub two-digits-spec : {M : Type 1} → statement M
 two-digits-spec =
     tie.close
-    (tie.spec
-    shared-slice-read-digit
-    digit-requires
-    mul-result
-    add-digit
-    shared-slice-read-digit-2
-    digit-requires-2
-    add-result
-    returns)
+    (tie.spec (λ c. search needs) (λ c κs. search needs) mul-result (λ c. search needs) (λ c. search needs) (λ c κs. search needs) add-result returns)

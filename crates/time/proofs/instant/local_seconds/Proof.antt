@@ -5,9 +5,6 @@ use Rattle.time.proofs.Seconds.{seconds-le, seconds-is}
 use Rattle.time.proofs.instant.local_seconds.Statement.{statement}
 use Rattle.time.proofs.instant.local_seconds.Tie as tie
 
-days-before-requires : tie.Need-days-before-requires
-days-before-requires c κs = stamped (c .args .t) (c .pre) .date
-
 mul-result : tie.Need-mul-result
 mul-result c = omega (arith, seconds-le (c .before .args .t) (c .before .pre) (c .days-before .result) (c .days-before .ensures))
 
@@ -32,12 +29,4 @@ returns c = seconds-is (c .before .before .before .before .args .t) (c .before .
 pub local-seconds-spec : {M : Type 1} → statement M
 local-seconds-spec =
     tie.close
-    (tie.spec
-    days-before-requires
-    mul-result
-    mul-result-2
-    add-result
-    mul-result-3
-    add-result-2
-    add-result-3
-    returns)
+    (tie.spec (λ c κs. stamped (c .args .t) (c .pre) .date) mul-result mul-result-2 add-result mul-result-3 add-result-2 add-result-3 returns)

@@ -26,6 +26,4 @@ returns-2 : tie.Need-returns-2
 returns-2 c = east-is (c .before .before .before .args .t) (c .before .before .before .pre) (c .if1 .left)
 
 pub offset-spec : {M : Type 1} → statement M
-offset-spec =
-    tie.close
-    (tie.spec mul-seconds mul-seconds-2 add-seconds cast-seconds sub-result returns returns-2)
+offset-spec = tie.close (tie.spec mul-seconds mul-seconds-2 add-seconds cast-seconds sub-result returns returns-2)

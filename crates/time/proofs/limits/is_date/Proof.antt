@@ -4,11 +4,8 @@ use Rattle.time.proofs.Bounds.{date-is}
 use Rattle.time.proofs.limits.is_date.Statement.{statement}
 use Rattle.time.proofs.limits.is_date.Tie as tie
 
-month-days-requires : tie.Need-month-days-requires
-month-days-requires c κs = search needs
-
 returns : tie.Need-returns
 returns c = date-is (c .before .args .y) (c .before .args .m) (c .before .args .d) _ (c .month-days .ensures)
 
 pub is-date-spec : {M : Type 1} → statement M
-is-date-spec = tie.close (tie.spec month-days-requires returns)
+is-date-spec = tie.close (tie.spec (λ c κs. search needs) returns)

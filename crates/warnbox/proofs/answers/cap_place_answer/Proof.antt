@@ -8,52 +8,10 @@ use Rattle.warnbox.proofs.answers.cap_place_answer.Tie as tie
 enum-told : tie.Need-enum-told
 enum-told c = search needs
 
-enum-told-2 : tie.Need-enum-told-2
-enum-told-2 c = search needs
-
-enum-told-3 : tie.Need-enum-told-3
-enum-told-3 c = search needs
-
-enum-told-4 : tie.Need-enum-told-4
-enum-told-4 c = search needs
-
-enum-told-5 : tie.Need-enum-told-5
-enum-told-5 c = search needs
-
-enum-known-answer : tie.Need-enum-known-answer
-enum-known-answer c = search needs
-
-returns : tie.Need-returns
-returns c = ap capPlaceAnswer (sym (c .enum-told .given .1))
-
-returns-2 : tie.Need-returns-2
-returns-2 c = ap capPlaceAnswer (sym (c .enum-told2 .given .1))
-
-returns-3 : tie.Need-returns-3
-returns-3 c = ap capPlaceAnswer (sym (c .enum-told3 .given .1))
-
-returns-4 : tie.Need-returns-4
-returns-4 c = ap capPlaceAnswer (sym (c .enum-told4 .given .1))
-
-returns-5 : tie.Need-returns-5
-returns-5 c = ap capPlaceAnswer (sym (c .enum-told5 .given .1))
-
-returns-6 : tie.Need-returns-6
-returns-6 c = ap capPlaceAnswer (sym (c .before .answer .given .1))
-
 pub cap-place-answer-spec : {M : Type 1} → statement M
 cap-place-answer-spec =
     tie.close
-    (tie.spec
-    enum-told
-    enum-told-2
-    enum-told-3
-    enum-told-4
-    enum-told-5
-    enum-known-answer
-    returns
-    returns-2
-    returns-3
-    returns-4
-    returns-5
-    returns-6)
+    (tie.spec enum-told (λ c. search needs) (λ c. search needs) (λ c. search needs) (λ c. search needs) (λ c. search needs)
+    (λ c. ap capPlaceAnswer (sym (c .enum-told .given .1))) (λ c. ap capPlaceAnswer (sym (c .enum-told2 .given .1)))
+    (λ c. ap capPlaceAnswer (sym (c .enum-told3 .given .1))) (λ c. ap capPlaceAnswer (sym (c .enum-told4 .given .1)))
+    (λ c. ap capPlaceAnswer (sym (c .enum-told5 .given .1))) (λ c. ap capPlaceAnswer (sym (c .before .answer .given .1))))

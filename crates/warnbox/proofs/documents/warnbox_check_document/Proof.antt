@@ -6,15 +6,8 @@ use Rattle.warnbox.proofs.Pairs.{apart}
 use Rattle.warnbox.proofs.documents.warnbox_check_document.Statement.{statement}
 use Rattle.warnbox.proofs.documents.warnbox_check_document.Tie as tie
 
-check-document-requires : tie.Need-check-document-requires
-check-document-requires c κs = search needs
-
-check-answer-requires : tie.Need-check-answer-requires
-check-answer-requires c κs = search needs
-
 returns : tie.Need-returns
 returns c = apart (c .check-answer .ensures ∙ ap checkAnswer (c .before .check-document .ensures))
 
 pub warnbox-check-document-spec : {M : Type 1} → statement M
-warnbox-check-document-spec =
-    tie.close (tie.spec check-document-requires check-answer-requires returns)
+warnbox-check-document-spec = tie.close (tie.spec (λ c κs. search needs) (λ c κs. search needs) returns)

@@ -9,17 +9,10 @@ use Rattle.warnbox.proofs.Places.{place-read}
 use Rattle.warnbox.proofs.documents.warnbox_document_place.Statement.{statement}
 use Rattle.warnbox.proofs.documents.warnbox_document_place.Tie as tie
 
-cap-place-requires : tie.Need-cap-place-requires
-cap-place-requires c κs = search needs
-
-cap-place-answer-requires : tie.Need-cap-place-answer-requires
-cap-place-answer-requires c κs = search needs
-
 returns : tie.Need-returns
 returns c =
     let k = c .before .before .before in
     apart (c .cap-place-answer .ensures ∙ ap capPlaceAnswer (c .before .cap-place .ensures ∙ ap (λ (p : Place). capPlace (k .args .part) p (k .args .document .now)) (place-read _ _ (k .fits .lat) (k .fits .lon))))
 
 pub warnbox-document-place-spec : {M : Type 1} → statement M
-warnbox-document-place-spec =
-    tie.close (tie.spec cap-place-requires cap-place-answer-requires returns)
+warnbox-document-place-spec = tie.close (tie.spec (λ c κs. search needs) (λ c κs. search needs) returns)

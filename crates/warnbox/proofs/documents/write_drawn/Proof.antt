@@ -6,41 +6,8 @@ use Rattle.warnbox.proofs.Writing.{part-written}
 use Rattle.warnbox.proofs.documents.write_drawn.Statement.{statement}
 use Rattle.warnbox.proofs.documents.write_drawn.Tie as tie
 
-enum-known-drawn : tie.Need-enum-known-drawn
-enum-known-drawn c = search needs
-
-span-in-requires : tie.Need-span-in-requires
-span-in-requires c κs = search needs
-
-span-in-requires-2 : tie.Need-span-in-requires-2
-span-in-requires-2 c κs = search needs
-
-write-cap-requires : tie.Need-write-cap-requires
-write-cap-requires c κs = search needs
-
-write-answer-requires : tie.Need-write-answer-requires
-write-answer-requires c κs = search needs
-
 enum-told : tie.Need-enum-told
 enum-told c = search needs
-
-refused-requires : tie.Need-refused-requires
-refused-requires c κs = search needs
-
-enum-told-2 : tie.Need-enum-told-2
-enum-told-2 c = search needs
-
-refused-requires-2 : tie.Need-refused-requires-2
-refused-requires-2 c κs = search needs
-
-enum-known-drawn-2 : tie.Need-enum-known-drawn-2
-enum-known-drawn-2 c = search needs
-
-refused-requires-3 : tie.Need-refused-requires-3
-refused-requires-3 c κs = search needs
-
-same-length : tie.Need-same-length
-same-length c = search needs
 
 returns : tie.Need-returns
 returns c = part-written _ _ _ _ _ (c .write-answer .ensures) _ _ _ _ _ (c .before .before .before .before .before .before .before .before .drawn .given .1) _ _ (c .before .before .before .before .before .span-in .ensures) (c .before .before .before .before .span-in2 .ensures) (c .before .before .before .write-cap .ensures)
@@ -57,20 +24,6 @@ returns-4 c = (c .refused3 .ensures ∙ ap (partSentence _ _ _) (sym (c .before 
 pub write-drawn-spec : {M : Type 1} → statement M
 write-drawn-spec =
     tie.close
-    (tie.spec
-    enum-known-drawn
-    span-in-requires
-    span-in-requires-2
-    write-cap-requires
-    write-answer-requires
-    enum-told
-    refused-requires
-    enum-told-2
-    refused-requires-2
-    enum-known-drawn-2
-    refused-requires-3
-    same-length
-    returns
-    returns-2
-    returns-3
-    returns-4)
+    (tie.spec (λ c. search needs) (λ c κs. search needs) (λ c κs. search needs) (λ c κs. search needs) (λ c κs. search needs) enum-told
+    (λ c κs. search needs) (λ c. search needs) (λ c κs. search needs) (λ c. search needs) (λ c κs. search needs) (λ c. search needs) returns
+    returns-2 returns-3 returns-4)

@@ -4,18 +4,6 @@ use Rattle.warnbox.specs.Numbers.{numbersOf}
 use Rattle.warnbox.proofs.numbers.numbers_of.Statement.{statement}
 use Rattle.warnbox.proofs.numbers.numbers_of.Tie as tie
 
-enum-known-found : tie.Need-enum-known-found
-enum-known-found c = search needs
-
-cap-numbers-requires : tie.Need-cap-numbers-requires
-cap-numbers-requires c κs = search needs
-
-enum-known-found-2 : tie.Need-enum-known-found-2
-enum-known-found-2 c = search needs
-
-warn-numbers-requires : tie.Need-warn-numbers-requires
-warn-numbers-requires c κs = search needs
-
 returns : tie.Need-returns
 unfolding numbersOf
 returns c = rw (c .before .before .found .given .1) (c .cap-numbers .ensures)
@@ -25,12 +13,4 @@ unfolding numbersOf
 returns-2 c = rw (c .before .before .found2 .given .1) (c .warn-numbers .ensures)
 
 pub numbers-of-spec : {M : Type 1} → statement M
-numbers-of-spec =
-    tie.close
-    (tie.spec
-    enum-known-found
-    cap-numbers-requires
-    enum-known-found-2
-    warn-numbers-requires
-    returns
-    returns-2)
+numbers-of-spec = tie.close (tie.spec (λ c. search needs) (λ c κs. search needs) (λ c. search needs) (λ c κs. search needs) returns returns-2)

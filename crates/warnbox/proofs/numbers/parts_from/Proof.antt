@@ -6,9 +6,6 @@ use Rattle.warnbox.proofs.Tests.{part-there}
 use Rattle.warnbox.proofs.numbers.parts_from.Statement.{statement}
 use Rattle.warnbox.proofs.numbers.parts_from.Tie as tie
 
-has-no-part-requires : tie.Need-has-no-part-requires
-has-no-part-requires c κs = search needs
-
 returns : tie.Need-returns
 unfolding capFrom
 returns c = rw (← c .before .has-no-part .ensures, c .if1 .taken)
@@ -21,4 +18,4 @@ unfolding capFrom
 returns-2 c = rw (← c .before .before .has-no-part .ensures, c .before .if1 .left, c .part-from .ensures)
 
 pub parts-from-spec : {M : Type 1} → statement M
-parts-from-spec = tie.close (tie.spec has-no-part-requires returns part-from-requires returns-2)
+parts-from-spec = tie.close (tie.spec (λ c κs. search needs) returns part-from-requires returns-2)

@@ -9,17 +9,10 @@ use Rattle.warnbox.proofs.Places.{place-read}
 use Rattle.warnbox.proofs.packets.warnbox_packet_place.Statement.{statement}
 use Rattle.warnbox.proofs.packets.warnbox_packet_place.Tie as tie
 
-packet-place-requires : tie.Need-packet-place-requires
-packet-place-requires c κs = search needs
-
-packet-place-answer-requires : tie.Need-packet-place-answer-requires
-packet-place-answer-requires c κs = search needs
-
 returns : tie.Need-returns
 returns c =
     let k = c .before .before .before in
     apart (c .packet-place-answer .ensures ∙ ap packetPlaceAnswer (c .before .packet-place .ensures ∙ ap (λ (p : Place). packetPlace (k .args .packet .now) p) (place-read _ _ (k .fits .lat) (k .fits .lon))))
 
 pub warnbox-packet-place-spec : {M : Type 1} → statement M
-warnbox-packet-place-spec =
-    tie.close (tie.spec packet-place-requires packet-place-answer-requires returns)
+warnbox-packet-place-spec = tie.close (tie.spec (λ c κs. search needs) (λ c κs. search needs) returns)

@@ -6,15 +6,6 @@ use Rattle.warnbox.proofs.Pairs.{apart}
 use Rattle.warnbox.proofs.packets.warnbox_packet_sentence.Statement.{statement}
 use Rattle.warnbox.proofs.packets.warnbox_packet_sentence.Tie as tie
 
-packet-sheet-requires : tie.Need-packet-sheet-requires
-packet-sheet-requires c κs = search needs
-
-write-drawn-requires : tie.Need-write-drawn-requires
-write-drawn-requires c κs = search needs
-
-same-length : tie.Need-same-length
-same-length c = search needs
-
 returns : tie.Need-returns
 returns c =
     let q = c .before .before .before .before .packet-sheet .ensures in
@@ -22,5 +13,4 @@ returns c =
     (e .0, e .1, c .before .before .write-drawn .ensures .1 ∙ ap (packetAfter _ _) q)
 
 pub warnbox-packet-sentence-spec : {M : Type 1} → statement M
-warnbox-packet-sentence-spec =
-    tie.close (tie.spec packet-sheet-requires write-drawn-requires same-length returns)
+warnbox-packet-sentence-spec = tie.close (tie.spec (λ c κs. search needs) (λ c κs. search needs) (λ c. search needs) returns)

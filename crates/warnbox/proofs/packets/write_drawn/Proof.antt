@@ -8,27 +8,6 @@ use Rattle.warnbox.proofs.Writing.{packet-written}
 use Rattle.warnbox.proofs.packets.write_drawn.Statement.{statement}
 use Rattle.warnbox.proofs.packets.write_drawn.Tie as tie
 
-enum-known-drawn : tie.Need-enum-known-drawn
-enum-known-drawn c = search needs
-
-write-warn-requires : tie.Need-write-warn-requires
-write-warn-requires c κs = search needs
-
-write-answer-requires : tie.Need-write-answer-requires
-write-answer-requires c κs = search needs
-
-enum-known-drawn-2 : tie.Need-enum-known-drawn-2
-enum-known-drawn-2 c = search needs
-
-fault-number-requires : tie.Need-fault-number-requires
-fault-number-requires c κs = search needs
-
-refused-requires : tie.Need-refused-requires
-refused-requires c κs = search needs
-
-same-length : tie.Need-same-length
-same-length c = search needs
-
 returns : tie.Need-returns
 returns c = packet-written _ _ _ _ _ (c .write-answer .ensures) _ _ (c .before .before .before .before .before .before .drawn .given .1) (c .before .before .before .write-warn .ensures)
 
@@ -38,13 +17,5 @@ returns-2 c = (c .refused .ensures ∙ ap (λ (n : ℕ). refused n 0) (c .before
 pub write-drawn-spec : {M : Type 1} → statement M
 write-drawn-spec =
     tie.close
-    (tie.spec
-    enum-known-drawn
-    write-warn-requires
-    write-answer-requires
-    enum-known-drawn-2
-    fault-number-requires
-    refused-requires
-    same-length
-    returns
-    returns-2)
+    (tie.spec (λ c. search needs) (λ c κs. search needs) (λ c κs. search needs) (λ c. search needs) (λ c κs. search needs) (λ c κs. search needs)
+    (λ c. search needs) returns returns-2)

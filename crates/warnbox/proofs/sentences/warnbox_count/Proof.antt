@@ -6,14 +6,8 @@ use Rattle.warnbox.proofs.Pairs.{apart}
 use Rattle.warnbox.proofs.sentences.warnbox_count.Statement.{statement}
 use Rattle.warnbox.proofs.sentences.warnbox_count.Tie as tie
 
-read-back-requires : tie.Need-read-back-requires
-read-back-requires c κs = search needs
-
-read-answer-requires : tie.Need-read-answer-requires
-read-answer-requires c κs = search needs
-
 returns : tie.Need-returns
 returns c = apart (c .read-answer .ensures ∙ ap readAnswer (c .before .read-back .ensures))
 
 pub warnbox-count-spec : {M : Type 1} → statement M
-warnbox-count-spec = tie.close (tie.spec read-back-requires read-answer-requires returns)
+warnbox-count-spec = tie.close (tie.spec (λ c κs. search needs) (λ c κs. search needs) returns)

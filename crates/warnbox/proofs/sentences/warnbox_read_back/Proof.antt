@@ -7,24 +7,6 @@ use Rattle.warnbox.proofs.Pairs.{apart}
 use Rattle.warnbox.proofs.sentences.warnbox_read_back.Statement.{statement}
 use Rattle.warnbox.proofs.sentences.warnbox_read_back.Tie as tie
 
-read-back-requires : tie.Need-read-back-requires
-read-back-requires c κs = search needs
-
-read-answer-requires : tie.Need-read-answer-requires
-read-answer-requires c κs = search needs
-
-enum-known-read : tie.Need-enum-known-read
-enum-known-read c = search needs
-
-enum-known-read-2 : tie.Need-enum-known-read-2
-enum-known-read-2 c = search needs
-
-numbers-of-requires : tie.Need-numbers-of-requires
-numbers-of-requires c κs = search needs
-
-enum-known-read-3 : tie.Need-enum-known-read-3
-enum-known-read-3 c = search needs
-
 enum-told : tie.Need-enum-told
 enum-told c = search needs
 
@@ -55,15 +37,5 @@ returns-4 c =
 pub warnbox-read-back-spec : {M : Type 1} → statement M
 warnbox-read-back-spec =
     tie.close
-    (tie.spec
-    read-back-requires
-    read-answer-requires
-    enum-known-read
-    enum-known-read-2
-    numbers-of-requires
-    enum-known-read-3
-    enum-told
-    returns
-    returns-2
-    returns-3
-    returns-4)
+    (tie.spec (λ c κs. search needs) (λ c κs. search needs) (λ c. search needs) (λ c. search needs) (λ c κs. search needs) (λ c. search needs)
+    enum-told returns returns-2 returns-3 returns-4)

@@ -4,16 +4,10 @@ use Rattle.warnbox.proofs.Pairs.{apart}
 use Rattle.warnbox.proofs.sentences.warnbox_write.Statement.{statement}
 use Rattle.warnbox.proofs.sentences.warnbox_write.Tie as tie
 
-write-numbers-requires : tie.Need-write-numbers-requires
-write-numbers-requires c κs = search needs
-
-same-length : tie.Need-same-length
-same-length c = search needs
-
 returns : tie.Need-returns
 returns c =
     let e = apart (c .before .before .write-numbers .ensures .0) in
     (e .0, e .1, c .before .before .write-numbers .ensures .1)
 
 pub warnbox-write-spec : {M : Type 1} → statement M
-warnbox-write-spec = tie.close (tie.spec write-numbers-requires same-length returns)
+warnbox-write-spec = tie.close (tie.spec (λ c κs. search needs) (λ c. search needs) returns)

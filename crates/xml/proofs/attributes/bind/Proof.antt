@@ -5,12 +5,6 @@ use Rattle.xml.specs.Attributes.{bound}
 use Rattle.xml.proofs.attributes.bind.Tie as tie
 use Rattle.xml.proofs.attributes.bind.Statement.{statement}
 
-enum-known-tail : tie.Need-enum-known-tail
-enum-known-tail c = search needs
-
-enum-known-tail-2 : tie.Need-enum-known-tail-2
-enum-known-tail-2 c = search needs
-
 enum-told : tie.Need-enum-told
 enum-told c = search needs
 
@@ -24,5 +18,4 @@ returns-3 : tie.Need-returns-3
 returns-3 c = ap (bound (c .before .before .args .p) (c .before .before .args .u)) (sym (c .enum-told .given .1))
 
 pub bind-spec : {M : Type 1} → statement M
-bind-spec =
-    tie.close (tie.spec enum-known-tail enum-known-tail-2 enum-told returns returns-2 returns-3)
+bind-spec = tie.close (tie.spec (λ c. search needs) (λ c. search needs) enum-told returns returns-2 returns-3)

@@ -8,23 +8,8 @@ use Rattle.xml.proofs.Binding.{equals-value, equals-fault}
 use Rattle.xml.proofs.attributes.read_equals.Tie as tie
 use Rattle.xml.proofs.attributes.read_equals.Statement.{statement}
 
-skip-space-requires : tie.Need-skip-space-requires
-skip-space-requires c κs = search needs
-
-slice-aggregate-starts-at : tie.Need-slice-aggregate-starts-at
-slice-aggregate-starts-at c = search needs
-
-starts-at-requires : tie.Need-starts-at-requires
-starts-at-requires c κs = search needs
-
 add-skip-space : tie.Need-add-skip-space
 add-skip-space c = omega (arith, starts-within (ascii "=") (c .before .before .before .before .before .args .s .now) (c .before .before .before .skip-space .result) (omega arith) (sym (c .before .starts-at .ensures) ∙ c .if1 .taken))
-
-skip-space-requires-2 : tie.Need-skip-space-requires-2
-skip-space-requires-2 c κs = search needs
-
-read-value-requires : tie.Need-read-value-requires
-read-value-requires c κs = search needs
 
 returns : tie.Need-returns
 returns c = equals-value _ _ _ _ _ _ _ (c .before .before .before .before .before .skip-space .ensures) (sym (c .before .before .before .starts-at .ensures) ∙ c .before .before .if1 .taken) (c .before .skip-space2 .ensures) (c .read-value .ensures)
@@ -35,12 +20,5 @@ returns-2 c = equals-fault _ (c .before .before .before .before .before .args .p
 pub read-equals-spec : {M : Type 1} → statement M
 read-equals-spec =
     tie.close
-    (tie.spec
-    skip-space-requires
-    slice-aggregate-starts-at
-    starts-at-requires
-    add-skip-space
-    skip-space-requires-2
-    read-value-requires
-    returns
+    (tie.spec (λ c κs. search needs) (λ c. search needs) (λ c κs. search needs) add-skip-space (λ c κs. search needs) (λ c κs. search needs) returns
     returns-2)

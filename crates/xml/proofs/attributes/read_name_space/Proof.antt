@@ -5,20 +5,8 @@ use Rattle.xml.proofs.Binding.{space-within, space-declared, space-faul
 use Rattle.xml.proofs.attributes.read_name_space.Tie as tie
 use Rattle.xml.proofs.attributes.read_name_space.Statement.{statement}
 
-skip-space-requires : tie.Need-skip-space-requires
-skip-space-requires c κs = search needs
-
-slice-aggregate-starts-at : tie.Need-slice-aggregate-starts-at
-slice-aggregate-starts-at c = search needs
-
-starts-at-requires : tie.Need-starts-at-requires
-starts-at-requires c κs = search needs
-
 add-read-declared : tie.Need-add-read-declared
 add-read-declared c = omega (arith, space-within (c .before .before .before .before .before .args .s .now) (c .before .before .before .before .before .args .n) (c .before .before .before .skip-space .result) _ (c .before .before .before .skip-space .ensures) (c .before .starts-at .ensures) (c .if1 .taken))
-
-read-declared-requires : tie.Need-read-declared-requires
-read-declared-requires c κs = search needs
 
 returns : tie.Need-returns
 returns c = space-declared _ _ _ _ (c .before .before .before .before .skip-space .ensures) (c .before .before .starts-at .ensures) _ (c .before .if1 .taken) (c .read-declared .ensures)
@@ -29,11 +17,4 @@ returns-2 c = space-fault _ _ _ _ (c .before .before .before .skip-space .ensure
 pub read-name-space-spec : {M : Type 1} → statement M
 read-name-space-spec =
     tie.close
-    (tie.spec
-    skip-space-requires
-    slice-aggregate-starts-at
-    starts-at-requires
-    add-read-declared
-    read-declared-requires
-    returns
-    returns-2)
+    (tie.spec (λ c κs. search needs) (λ c. search needs) (λ c κs. search needs) add-read-declared (λ c κs. search needs) returns returns-2)

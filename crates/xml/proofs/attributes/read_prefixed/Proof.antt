@@ -7,17 +7,11 @@ use Rattle.xml.proofs.attributes.read_prefixed.Statement.{statement}
 returns : tie.Need-returns
 returns c = prefix-none (c .before .before .args .s .now) (c .before .before .args .p) (c .before .before .args .u) (c .if1 .taken)
 
-sub-if2 : tie.Need-sub-if2
-sub-if2 c = search needs
-
 returns-2 : tie.Need-returns-2
 returns-2 c = prefix-long (c .before .before .before .args .s .now) (c .before .before .before .args .p) (c .before .before .before .args .u) (c .if2 .taken)
-
-read-equals-requires : tie.Need-read-equals-requires
-read-equals-requires c κs = search needs
 
 returns-3 : tie.Need-returns-3
 returns-3 c = prefix-some (c .before .before .before .before .args .s .now) (c .before .before .before .before .args .p) (c .before .before .before .before .args .u) _ (c .before .before .if1 .left) (c .before .if2 .left) (c .read-equals .ensures)
 
 pub read-prefixed-spec : {M : Type 1} → statement M
-read-prefixed-spec = tie.close (tie.spec returns sub-if2 returns-2 read-equals-requires returns-3)
+read-prefixed-spec = tie.close (tie.spec returns (λ c. search needs) returns-2 (λ c κs. search needs) returns-3)

@@ -5,26 +5,8 @@ use Rattle.xml.proofs.Binding.{value-within, value-bound, value-fault}
 use Rattle.xml.proofs.attributes.read_value.Tie as tie
 use Rattle.xml.proofs.attributes.read_value.Statement.{statement}
 
-slice-aggregate-starts-at : tie.Need-slice-aggregate-starts-at
-slice-aggregate-starts-at c = search needs
-
-starts-at-requires : tie.Need-starts-at-requires
-starts-at-requires c κs = search needs
-
-slice-aggregate-starts-at-2 : tie.Need-slice-aggregate-starts-at-2
-slice-aggregate-starts-at-2 c = search needs
-
-starts-at-requires-2 : tie.Need-starts-at-requires-2
-starts-at-requires-2 c κs = search needs
-
 add-read-tail : tie.Need-add-read-tail
 add-read-tail c = omega (arith, value-within (c .before .before .before .before .before .before .args .s .now) (c .before .before .before .before .before .before .args .at) _ _ (c .before .before .before .starts-at .ensures) (c .before .starts-at2 .ensures) (c .if1 .taken))
-
-read-tail-requires : tie.Need-read-tail-requires
-read-tail-requires c κs = search needs
-
-bind-requires : tie.Need-bind-requires
-bind-requires c κs = search needs
 
 returns : tie.Need-returns
 returns c = value-bound _ (c .before .before .before .before .before .before .before .before .args .at) _ _ (c .before .before .before .before .before .starts-at .ensures) (c .before .before .before .starts-at2 .ensures) _ _ _ _ (c .before .before .if1 .taken) (c .before .read-tail .ensures) (c .bind .ensures)
@@ -35,13 +17,5 @@ returns-2 c = value-fault _ (c .before .before .before .before .before .before .
 pub read-value-spec : {M : Type 1} → statement M
 read-value-spec =
     tie.close
-    (tie.spec
-    slice-aggregate-starts-at
-    starts-at-requires
-    slice-aggregate-starts-at-2
-    starts-at-requires-2
-    add-read-tail
-    read-tail-requires
-    bind-requires
-    returns
-    returns-2)
+    (tie.spec (λ c. search needs) (λ c κs. search needs) (λ c. search needs) (λ c κs. search needs) add-read-tail (λ c κs. search needs)
+    (λ c κs. search needs) returns returns-2)

@@ -16,23 +16,8 @@ Inv-loop s at i₀ t4 i = commentEnd i (drop i s) ≡ commentEnd at (drop at s)
 abbrev μ-loop : tie.MeasureT-loop
 μ-loop s at i₀ t4 i = length s - i
 
-loop-holds : tie.Need-loop-holds Inv-loop μ-loop
-loop-holds c = refl
-
-slice-aggregate-starts-at : tie.Need-slice-aggregate-starts-at Inv-loop μ-loop
-slice-aggregate-starts-at c = search needs
-
-starts-at-requires : tie.Need-starts-at-requires Inv-loop μ-loop
-starts-at-requires c κs = search needs
-
 returns : tie.Need-returns Inv-loop μ-loop
 returns c = sym (search-stop comment-search _ _ (c .before .before .before .loop-test .taken) (sym (c .before .starts-at .ensures) ∙ c .if1 .taken)) ∙ c .before .before .before .before .loop .inv
-
-add-i : tie.Need-add-i Inv-loop μ-loop
-add-i c = omega arith
-
-loop-less : tie.Need-loop-less Inv-loop μ-loop
-loop-less c = omega arith
 
 loop-again : tie.Need-loop-again Inv-loop μ-loop
 loop-again c = sym (search-on comment-search _ _ (c .before .before .before .loop-test .taken) (sym (c .before .starts-at .ensures) ∙ c .if1 .left)) ∙ c .before .before .before .before .loop .inv
@@ -43,14 +28,5 @@ returns-2 c = sym (search-none comment-search _ _ (c .loop-test .left)) ∙ c .b
 pub comment-end-spec : {M : Type 1} → statement M
 comment-end-spec =
     tie.close
-    (tie.spec
-    Inv-loop
-    μ-loop
-    loop-holds
-    slice-aggregate-starts-at
-    starts-at-requires
-    returns
-    add-i
-    loop-less
-    loop-again
+    (tie.spec Inv-loop μ-loop (λ c. refl) (λ c. search needs) (λ c κs. search needs) returns (λ c. omega arith) (λ c. omega arith) loop-again
     returns-2)

@@ -6,12 +6,6 @@ use Rattle.xml.specs.Comments.{judged}
 use Rattle.xml.proofs.comments.faulty.Tie as tie
 use Rattle.xml.proofs.comments.faulty.Statement.{statement}
 
-comment-end-requires : tie.Need-comment-end-requires
-comment-end-requires c κs = search needs
-
-enum-known-end : tie.Need-enum-known-end
-enum-known-end c = search needs
-
 enum-told : tie.Need-enum-told
 enum-told c = search needs
 
@@ -22,4 +16,4 @@ returns-2 : tie.Need-returns-2
 returns-2 c = ap (judged false) (sym (c .enum-told .given .1) ∙ c .before .before .comment-end .ensures)
 
 pub faulty-spec : {M : Type 1} → statement M
-faulty-spec = tie.close (tie.spec comment-end-requires enum-known-end enum-told returns returns-2)
+faulty-spec = tie.close (tie.spec (λ c κs. search needs) (λ c. search needs) enum-told returns returns-2)

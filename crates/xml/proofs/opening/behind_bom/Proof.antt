@@ -6,12 +6,6 @@ use Rattle.xml.proofs.Declaration.{bom-is}
 use Rattle.xml.proofs.opening.behind_bom.Tie as tie
 use Rattle.xml.proofs.opening.behind_bom.Statement.{statement}
 
-slice-aggregate-starts-at : tie.Need-slice-aggregate-starts-at
-slice-aggregate-starts-at c = search needs
-
-starts-at-requires : tie.Need-starts-at-requires
-starts-at-requires c κs = search needs
-
 returns : tie.Need-returns
 returns c = bom-is _ true (sym (c .before .starts-at .ensures) ∙ c .if1 .taken)
 
@@ -19,5 +13,4 @@ returns-2 : tie.Need-returns-2
 returns-2 c = bom-is _ false (sym (c .before .starts-at .ensures) ∙ c .if1 .left)
 
 pub behind-bom-spec : {M : Type 1} → statement M
-behind-bom-spec =
-    tie.close (tie.spec slice-aggregate-starts-at starts-at-requires returns returns-2)
+behind-bom-spec = tie.close (tie.spec (λ c. search needs) (λ c κs. search needs) returns returns-2)

@@ -5,15 +5,6 @@ use Rattle.xml.proofs.Declaration.{bom-le, prolog-declared, prolog-plai
 use Rattle.xml.proofs.opening.read_prolog.Tie as tie
 use Rattle.xml.proofs.opening.read_prolog.Statement.{statement}
 
-behind-bom-requires : tie.Need-behind-bom-requires
-behind-bom-requires c κs = search needs
-
-declares-requires : tie.Need-declares-requires
-declares-requires c κs = bom-le _ _ (c .behind-bom .ensures)
-
-read-declaration-requires : tie.Need-read-declaration-requires
-read-declaration-requires c κs = bom-le _ _ (c .before .before .behind-bom .ensures)
-
 returns : tie.Need-returns
 returns c = prolog-declared _ _ (c .before .before .before .behind-bom .ensures) _ (sym (c .before .before .declares .ensures) ∙ c .before .if1 .taken) (c .read-declaration .ensures)
 
@@ -23,4 +14,5 @@ returns-2 c = prolog-plain _ _ (c .before .before .behind-bom .ensures) (sym (c 
 pub read-prolog-spec : {M : Type 1} → statement M
 read-prolog-spec =
     tie.close
-    (tie.spec behind-bom-requires declares-requires read-declaration-requires returns returns-2)
+    (tie.spec (λ c κs. search needs) (λ c κs. bom-le _ _ (c .behind-bom .ensures)) (λ c κs. bom-le _ _ (c .before .before .behind-bom .ensures))
+    returns returns-2)

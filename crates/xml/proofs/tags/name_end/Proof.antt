@@ -15,21 +15,6 @@ Inv-loop s at i₀ i = i + leading isTagByte (drop i s) ≡ at + leading isTagBy
 abbrev μ-loop : tie.MeasureT-loop
 μ-loop s at i₀ i = length s - i
 
-loop-holds : tie.Need-loop-holds Inv-loop μ-loop
-loop-holds c = refl
-
-shared-slice-read-is-tag-byte : tie.Need-shared-slice-read-is-tag-byte Inv-loop μ-loop
-shared-slice-read-is-tag-byte c = search needs
-
-is-tag-byte-requires : tie.Need-is-tag-byte-requires Inv-loop μ-loop
-is-tag-byte-requires c κs = search needs
-
-add-i : tie.Need-add-i Inv-loop μ-loop
-add-i c = omega arith
-
-loop-less : tie.Need-loop-less Inv-loop μ-loop
-loop-less c = omega arith
-
 loop-again : tie.Need-loop-again Inv-loop μ-loop
 loop-again c = sym (run-on isTagByte _ _ (c .before .before .before .loop-test .taken) (sym (c .before .is-tag-byte .ensures) ∙ c .if1 .taken)) ∙ c .before .before .before .before .loop .inv
 
@@ -42,14 +27,5 @@ returns-2 c = sym (run-end isTagByte _ _ (c .loop-test .left)) ∙ c .before .lo
 pub name-end-spec : {M : Type 1} → statement M
 name-end-spec =
     tie.close
-    (tie.spec
-    Inv-loop
-    μ-loop
-    loop-holds
-    shared-slice-read-is-tag-byte
-    is-tag-byte-requires
-    add-i
-    loop-less
-    loop-again
-    returns
+    (tie.spec Inv-loop μ-loop (λ c. refl) (λ c. search needs) (λ c κs. search needs) (λ c. omega arith) (λ c. omega arith) loop-again returns
     returns-2)

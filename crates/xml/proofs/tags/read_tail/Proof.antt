@@ -8,26 +8,11 @@ use Rattle.xml.proofs.Ends.{tail-opens, tail-empties, tail-fault}
 use Rattle.xml.proofs.tags.read_tail.Tie as tie
 use Rattle.xml.proofs.tags.read_tail.Statement.{statement}
 
-skip-space-requires : tie.Need-skip-space-requires
-skip-space-requires c κs = search needs
-
-slice-aggregate-starts-at : tie.Need-slice-aggregate-starts-at
-slice-aggregate-starts-at c = search needs
-
-starts-at-requires : tie.Need-starts-at-requires
-starts-at-requires c κs = search needs
-
 add-t9 : tie.Need-add-t9
 add-t9 c = omega (arith, starts-within (ascii ">") (c .before .before .before .before .before .args .s .now) (c .before .before .before .skip-space .result) (omega arith) (sym (c .before .starts-at .ensures) ∙ c .if1 .taken))
 
 returns : tie.Need-returns
 returns c = tail-opens _ _ _ (c .before .before .before .skip-space .ensures) (sym (c .before .starts-at .ensures) ∙ c .if1 .taken)
-
-slice-aggregate-starts-at-2 : tie.Need-slice-aggregate-starts-at-2
-slice-aggregate-starts-at-2 c = search needs
-
-starts-at-requires-2 : tie.Need-starts-at-requires-2
-starts-at-requires-2 c κs = search needs
 
 add-t13 : tie.Need-add-t13
 add-t13 c = omega (arith, starts-within (ascii "/>") (c .before .before .before .before .before .before .before .before .args .s .now) (c .before .before .before .before .before .before .skip-space .result) (omega arith) (sym (c .before .starts-at2 .ensures) ∙ c .if2 .taken))
@@ -41,14 +26,5 @@ returns-3 c = tail-fault _ _ _ (c .before .before .before .before .before .befor
 pub read-tail-spec : {M : Type 1} → statement M
 read-tail-spec =
     tie.close
-    (tie.spec
-    skip-space-requires
-    slice-aggregate-starts-at
-    starts-at-requires
-    add-t9
-    returns
-    slice-aggregate-starts-at-2
-    starts-at-requires-2
-    add-t13
-    returns-2
-    returns-3)
+    (tie.spec (λ c κs. search needs) (λ c. search needs) (λ c κs. search needs) add-t9 returns (λ c. search needs) (λ c κs. search needs) add-t13
+    returns-2 returns-3)

@@ -15,23 +15,8 @@ Inv-loop s at q₀ i₀ q i = tagEnd q i (drop i s) ≡ tagEnd 0 at (drop at s)
 abbrev μ-loop : tie.MeasureT-loop
 μ-loop s at q₀ i₀ q i = length s - i
 
-loop-holds : tie.Need-loop-holds Inv-loop μ-loop
-loop-holds c = refl
-
-shared-slice-read-b : tie.Need-shared-slice-read-b Inv-loop μ-loop
-shared-slice-read-b c = search needs
-
 returns : tie.Need-returns Inv-loop μ-loop
 returns c = sym (tag-stop _ _ _ (c .before .before .loop-test .taken) (c .if1 .taken)) ∙ c .before .before .before .loop .inv
-
-quote-after-requires : tie.Need-quote-after-requires Inv-loop μ-loop
-quote-after-requires c κs = search needs
-
-add-i : tie.Need-add-i Inv-loop μ-loop
-add-i c = omega arith
-
-loop-less : tie.Need-loop-less Inv-loop μ-loop
-loop-less c = omega arith
 
 loop-again : tie.Need-loop-again Inv-loop μ-loop
 loop-again c = sym (tag-on _ _ _ _ (c .before .before .before .loop-test .taken) (c .before .if1 .left) (c .quote-after .ensures)) ∙ c .before .before .before .before .loop .inv
@@ -42,14 +27,5 @@ returns-2 c = sym (tag-none _ _ _ (c .loop-test .left)) ∙ c .before .loop .inv
 pub tag-end-spec : {M : Type 1} → statement M
 tag-end-spec =
     tie.close
-    (tie.spec
-    Inv-loop
-    μ-loop
-    loop-holds
-    shared-slice-read-b
-    returns
-    quote-after-requires
-    add-i
-    loop-less
-    loop-again
+    (tie.spec Inv-loop μ-loop (λ c. refl) (λ c. search needs) returns (λ c κs. search needs) (λ c. omega arith) (λ c. omega arith) loop-again
     returns-2)

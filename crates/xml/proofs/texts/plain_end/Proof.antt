@@ -15,24 +15,6 @@ Inv-loop s at i₀ i = i + leading isPlain (drop i s) ≡ at + leading isPlain (
 abbrev μ-loop : tie.MeasureT-loop
 μ-loop s at i₀ i = length s - i
 
-skip-blocks-requires : tie.Need-skip-blocks-requires Inv-loop μ-loop
-skip-blocks-requires c κs = search needs
-
-loop-holds : tie.Need-loop-holds Inv-loop μ-loop
-loop-holds c = c .skip-blocks .ensures
-
-shared-slice-read-is-plain : tie.Need-shared-slice-read-is-plain Inv-loop μ-loop
-shared-slice-read-is-plain c = search needs
-
-is-plain-requires : tie.Need-is-plain-requires Inv-loop μ-loop
-is-plain-requires c κs = search needs
-
-add-i : tie.Need-add-i Inv-loop μ-loop
-add-i c = omega arith
-
-loop-less : tie.Need-loop-less Inv-loop μ-loop
-loop-less c = omega arith
-
 loop-again : tie.Need-loop-again Inv-loop μ-loop
 loop-again c = sym (run-on isPlain _ _ (c .before .before .before .loop-test .taken) (sym (c .before .is-plain .ensures) ∙ c .if1 .taken)) ∙ c .before .before .before .before .loop .inv
 
@@ -45,15 +27,5 @@ returns-2 c = sym (run-end isPlain _ _ (c .loop-test .left)) ∙ c .before .loop
 pub plain-end-spec : {M : Type 1} → statement M
 plain-end-spec =
     tie.close
-    (tie.spec
-    Inv-loop
-    μ-loop
-    skip-blocks-requires
-    loop-holds
-    shared-slice-read-is-plain
-    is-plain-requires
-    add-i
-    loop-less
-    loop-again
-    returns
-    returns-2)
+    (tie.spec Inv-loop μ-loop (λ c κs. search needs) (λ c. c .skip-blocks .ensures) (λ c. search needs) (λ c κs. search needs) (λ c. omega arith)
+    (λ c. omega arith) loop-again returns returns-2)

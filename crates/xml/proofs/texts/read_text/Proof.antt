@@ -15,23 +15,8 @@ Inv-loop s at i₀ i = content s i ≡ content s at
 abbrev μ-loop : tie.MeasureT-loop
 μ-loop s at i₀ i = length s - i
 
-plain-end-requires : tie.Need-plain-end-requires Inv-loop μ-loop
-plain-end-requires c κs = search needs
-
-loop-holds : tie.Need-loop-holds Inv-loop μ-loop
-loop-holds c = content-run _ _ _ (c .plain-end .ensures)
-
-shared-slice-read-if1 : tie.Need-shared-slice-read-if1 Inv-loop μ-loop
-shared-slice-read-if1 c = search needs
-
 returns : tie.Need-returns Inv-loop μ-loop
 returns c = sym (content-stop _ _ (c .before .before .loop-test .taken) (c .if1 .taken)) ∙ c .before .before .before .loop .inv
-
-is-fault-requires : tie.Need-is-fault-requires Inv-loop μ-loop
-is-fault-requires c κs = search needs
-
-faulty-requires : tie.Need-faulty-requires Inv-loop μ-loop
-faulty-requires c κs = search needs
 
 returns-2 : tie.Need-returns-2 Inv-loop μ-loop
 returns-2 c =
@@ -39,15 +24,6 @@ returns-2 c =
     c .faulty .ensures
     ∙ (sym (content-fault _ _ (c .before .before .before .before .before .loop-test .taken) (c .before .before .before .if1 .left) fault)
     ∙ c .before .before .before .before .before .before .loop .inv)
-
-add-plain-end : tie.Need-add-plain-end Inv-loop μ-loop
-add-plain-end c = omega arith
-
-plain-end-requires-2 : tie.Need-plain-end-requires-2 Inv-loop μ-loop
-plain-end-requires-2 c κs = search needs
-
-loop-less : tie.Need-loop-less Inv-loop μ-loop
-loop-less c = omega arith
 
 loop-again : tie.Need-loop-again Inv-loop μ-loop
 loop-again c =
@@ -62,18 +38,5 @@ returns-3 c = sym (content-none _ _ (c .loop-test .left)) ∙ c .before .loop .i
 pub read-text-spec : {M : Type 1} → statement M
 read-text-spec =
     tie.close
-    (tie.spec
-    Inv-loop
-    μ-loop
-    plain-end-requires
-    loop-holds
-    shared-slice-read-if1
-    returns
-    is-fault-requires
-    faulty-requires
-    returns-2
-    add-plain-end
-    plain-end-requires-2
-    loop-less
-    loop-again
-    returns-3)
+    (tie.spec Inv-loop μ-loop (λ c κs. search needs) (λ c. content-run _ _ _ (c .plain-end .ensures)) (λ c. search needs) returns
+    (λ c κs. search needs) (λ c κs. search needs) returns-2 (λ c. omega arith) (λ c κs. search needs) (λ c. omega arith) loop-again returns-3)

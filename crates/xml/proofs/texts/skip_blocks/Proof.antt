@@ -16,47 +16,13 @@ Inv-loop s at last i₀ i = i + leading isPlain (drop i s) ≡ at + leading isPl
 abbrev μ-loop : tie.MeasureT-loop
 μ-loop s at last i₀ i = length s - i
 
-returns : tie.Need-returns Inv-loop μ-loop
-returns c = refl
-
-sub-last : tie.Need-sub-last Inv-loop μ-loop
-sub-last c = search needs
-
-loop-holds : tie.Need-loop-holds Inv-loop μ-loop
-loop-holds c = refl
-
-is-plain-block-requires : tie.Need-is-plain-block-requires Inv-loop μ-loop
-is-plain-block-requires c κs = omega arith
-
-returns-2 : tie.Need-returns-2 Inv-loop μ-loop
-returns-2 c = c .before .before .before .loop .inv
-
-add-i : tie.Need-add-i Inv-loop μ-loop
-add-i c = omega arith
-
-loop-less : tie.Need-loop-less Inv-loop μ-loop
-loop-less c = omega arith
-
 loop-again : tie.Need-loop-again Inv-loop μ-loop
 loop-again c =
     sym (run-part isPlain _ _ 16 (leb-true 16 _ (sym (c .before .is-plain-block .ensures) ∙ not-false _ (c .if2 .left))))
     ∙ c .before .before .before .loop .inv
 
-returns-3 : tie.Need-returns-3 Inv-loop μ-loop
-returns-3 c = c .before .loop .inv
-
 pub skip-blocks-spec : {M : Type 1} → statement M
 skip-blocks-spec =
     tie.close
-    (tie.spec
-    Inv-loop
-    μ-loop
-    returns
-    sub-last
-    loop-holds
-    is-plain-block-requires
-    returns-2
-    add-i
-    loop-less
-    loop-again
-    returns-3)
+    (tie.spec Inv-loop μ-loop (λ c. refl) (λ c. search needs) (λ c. refl) (λ c κs. omega arith) (λ c. c .before .before .before .loop .inv)
+    (λ c. omega arith) (λ c. omega arith) loop-again (λ c. c .before .loop .inv))
