@@ -1,6 +1,6 @@
 -- The way from a centre to a place: cosines, squares, and the answer by cases. A signed value that a callee was passed is read back from its bits: `read w32`.
 use mathlib.Core.Path.{_≡_, sym, ap, _∙_}
-use mathlib.Core.Bool.{Bool, true, false}
+use mathlib.Core.Bool.{Bool, false, cond}
 use Prim.Native.Nat.{ℕ, _+_, _*_, _/_, _≤_, _<_}
 use native.Mathlib.Nat.{mul-le-mul, mul-lt-mul-of-pos-right, le-of-lt, le-refl, lt-of-le-of-lt}
 use native.Mathlib.Omega.{arith}
@@ -33,7 +33,7 @@ cosine-is lat d r f e g =
 -- ---- squares
 
 -- a square of a number to k
-pub square-le : (x k : ℕ) → x ≤ k → x * x ≤ k * k
+square-le : (x k : ℕ) → x ≤ k → x * x ≤ k * k
 square-le x k h = mul-le-mul h h
 
 pub square-fits : (x : ℕ) → x ≤ 2_000_000_000 → Fits w64 (x * x)
@@ -78,10 +78,7 @@ module _ (c : Place) (metres : ℕ) (p : Place) where
     unfolding inCircle
     plain = er ∙ rw (read-given-32 (c .lat) hcy, read-given-32 (c .lon) hcx, read-given-32 (p .lat) hpy, read-given-32 (p .lon) hpx, eu)
 
-    pub is-inside : r ≡ true → Inside ≡ aroundHolds c metres p
+    -- the answer, by whether the place is near
+    pub is-side : aroundHolds c metres p ≡ cond r Inside Outside
     unfolding aroundHolds
-    is-inside e = rw (le-leb metres 20_000_000 h, ← plain, e)
-
-    pub is-outside : r ≡ false → Outside ≡ aroundHolds c metres p
-    unfolding aroundHolds
-    is-outside e = rw (le-leb metres 20_000_000 h, ← plain, e)
+    is-side = rw (le-leb metres 20_000_000 h, ← plain)

@@ -11,81 +11,65 @@ use lib.Seq.{drop-drop}
 use Rattle.text.specs.Bytes.{spaces, dropSpace, digits}
 use Rattle.text.specs.Tokens.{onToken, tokens, tokenLength}
 use Rattle.text.proofs.Laws.{tokens-space, tokens-next, token-or-end, spaces-within, token-within}
-use Rattle.coordinates.specs.declared.Place.{Place}
 use Rattle.coordinates.specs.declared.Pair.{Pair}
 use Rattle.coordinates.specs.declared.Pair.the-variants as pair
 use Rattle.coordinates.specs.declared.Radius.{Radius}
 use Rattle.coordinates.specs.declared.Radius.the-variants as radius
-use Rattle.coordinates.specs.declared.Inclusion.{Inclusion}
-use Rattle.coordinates.specs.declared.Inclusion.the-variants as inclusion
 use Rattle.coordinates.specs.Place.{pairOf, coordinateAt}
 use Rattle.coordinates.specs.Decimal.{radiusOf, isDecimal, places, leads}
 use Rattle.circle.specs.declared.Circle.{Circle}
 use Rattle.circle.specs.declared.Circle.the-variants as circle
-use Rattle.circle.specs.Circle.{aroundHolds, circleFrom, circleTokens, circleOf, circleHolds}
+use Rattle.circle.specs.Circle.{circleFrom, circleTokens, circleOf}
 
 -- an empty text is neither a pair nor a radius
-pub pair-empty : pairOf [] ≡ pair.Fault
-unfolding pairOf coordinateAt isDecimal places leads digits
+pair-empty : pairOf [] ≡ pair.Fault
+unfolding pairOf coordinateAt isDecimal places leads
 pair-empty = refl
 
-pub radius-empty : radiusOf [] ≡ radius.Fault
-unfolding radiusOf isDecimal digits
+radius-empty : radiusOf [] ≡ radius.Fault
+unfolding radiusOf isDecimal
 radius-empty = refl
 
 no-radius : (p : Pair) → circleFrom p radius.Fault ≡ circle.Fault
 no-radius (pair.At p) = refl
 no-radius pair.Fault = refl
 
-pub circle-around : (p : Pair) (r : Radius) (c : Place) (m : ℕ) → p ≡ pair.At c → r ≡ radius.Metres m → circle.Around c m ≡ circleFrom p r
-circle-around p r c m e f = rw (e, f)
-
--- the answer, from the circle o that was read
-module _ (l : List ℕ) (p : Place) (o : Circle) (e : o ≡ circleOf l) where
-  pub holds-around : (c : Place) (m : ℕ) (r : Inclusion) → o ≡ circle.Around c m → r ≡ aroundHolds c m p → r ≡ circleHolds l p
-  unfolding circleHolds
-  holds-around c m r f g = g ∙ rw (← e, f)
-
-  pub holds-fault : o ≡ circle.Fault → inclusion.Fault ≡ circleHolds l p
-  unfolding circleHolds
-  holds-fault f = rw (← e, f)
-
--- the first token of a text, and what stands behind it; both empty where it has none
-abbrev pub token : List ℕ → List ℕ
+-- the first token of a text, and what stands after it; both empty where it has none
+abbrev token : List ℕ → List ℕ
 token l = take (tokenLength (dropSpace l)) (dropSpace l)
 
-abbrev pub behind : List ℕ → List ℕ
-behind l = drop (tokenLength (dropSpace l)) (dropSpace l)
+abbrev after : List ℕ → List ℕ
+after l = drop (tokenLength (dropSpace l)) (dropSpace l)
 
-none : (l : List ℕ) → dropSpace l ≡ [] → (tokens l ≡ []) × ((token l ≡ []) × (behind l ≡ []))
-unfolding tokens tokenLength
+none : (l : List ℕ) → dropSpace l ≡ [] → (tokens l ≡ []) × ((token l ≡ []) × (after l ≡ []))
+unfolding tokens
 none l e = (sym (tokens-space l) ∙ rw e, (rw e, rw e))
 
-some : (l : List ℕ) → onToken (dropSpace l) ≡ true → tokens l ≡ token l ∷ tokens (behind l)
+some : (l : List ℕ) → onToken (dropSpace l) ≡ true → tokens l ≡ token l ∷ tokens (after l)
 some l e = sym (tokens-space l) ∙ tokens-next (dropSpace l) e
 
--- nothing but white space behind the second token
-pub circle-two : (l : List ℕ) → dropSpace (behind (behind l)) ≡ [] → circleOf l ≡ circleFrom (pairOf (token l)) (radiusOf (token (behind l)))
+-- nothing but white space after the second token
+circle-two : (l : List ℕ) → dropSpace (after (after l)) ≡ [] → circleOf l ≡ circleFrom (pairOf (token l)) (radiusOf (token (after l)))
 unfolding circleOf circleTokens
 circle-two l e =
     ⊎-elim
     (λ n. let q = none l n in rw (q .0, q .1 .0, pair-empty))
     (λ s. ⊎-elim
-    (λ n. let q = none (behind l) n in rw (some l s, q .0, q .1 .0, radius-empty) (sym (no-radius (pairOf (token l)))))
-    (λ t. rw (some l s, some (behind l) t, none (behind (behind l)) e .0))
-    (token-or-end (behind l)))
+    (λ n. let q = none (after l) n in rw (some l s, q .0, q .1 .0, radius-empty) (sym (no-radius (pairOf (token l)))))
+    (λ t. rw (some l s, some (after l) t, none (after (after l)) e .0))
+    (token-or-end (after l)))
     (token-or-end l)
 
 -- a third token
-pub circle-more : (l : List ℕ) → onToken (dropSpace (behind (behind l))) ≡ true → circleOf l ≡ circle.Fault
+circle-more : (l : List ℕ) → onToken (dropSpace (after (after l))) ≡ true → circleOf l ≡ circle.Fault
 unfolding circleOf circleTokens
 circle-more l e =
     ⊎-elim
     (λ n. rw (none l n .0))
     (λ s. ⊎-elim
-    (λ n. rw (some l s, none (behind l) n .0))
-    (λ t. rw (some l s, some (behind l) t, some (behind (behind l)) e))
-    (token-or-end (behind l)))
+    (λ n. rw (some l s, none (after l) n .0))
+    (λ t. rw (some l s, some (after l) t, some (after (after l)) e))
+    (token-or-end (after l)))
     (token-or-end l)
 
 -- ---- the places of the two tokens: a and b, c and d are their starts and ends
@@ -93,25 +77,25 @@ module _ (s : List ℕ) (a b c d : ℕ) (ea : a ≡ 0 + spaces (drop 0 s)) (eb :
   from-a : drop a s ≡ dropSpace s
   from-a = ap (λ (i : ℕ). drop i s) (ea ∙ zero-add (spaces s))
 
-  from-b : drop b s ≡ behind s
+  from-b : drop b s ≡ after s
   from-b = ap (λ (i : ℕ). drop i s) eb ∙ sym (drop-drop (tokenLength (drop a s)) a s) ∙ rw from-a
 
-  from-c : drop c s ≡ dropSpace (behind s)
+  from-c : drop c s ≡ dropSpace (after s)
   from-c = ap (λ (i : ℕ). drop i s) ec ∙ sym (drop-drop (spaces (drop b s)) b s) ∙ rw from-b
 
-  from-d : drop d s ≡ behind (behind s)
+  from-d : drop d s ≡ after (after s)
   from-d = ap (λ (i : ℕ). drop i s) ed ∙ sym (drop-drop (tokenLength (drop c s)) c s) ∙ rw from-c
 
-  pub within-a : a ≤ length s
+  within-a : a ≤ length s
   within-a = rw ea (spaces-within s 0 (omega arith))
 
-  pub within-b : b ≤ length s
+  within-b : b ≤ length s
   within-b = rw eb (token-within s a within-a)
 
-  pub within-c : c ≤ length s
+  within-c : c ≤ length s
   within-c = rw ec (spaces-within s b within-b)
 
-  pub within-d : d ≤ length s
+  within-d : d ≤ length s
   within-d = rw ed (token-within s c within-c)
 
   first-is : take (b - a) (drop a s) ≡ token s
@@ -119,13 +103,13 @@ module _ (s : List ℕ) (a b c d : ℕ) (ea : a ≡ 0 + spaces (drop 0 s)) (eb :
       let n : b - a ≡ tokenLength (drop a s) = rw eb (add-sub-cancel-left a (tokenLength (drop a s))) in
       rw (n, from-a)
 
-  second-is : take (d - c) (drop c s) ≡ token (behind s)
+  second-is : take (d - c) (drop c s) ≡ token (after s)
   second-is =
       let n : d - c ≡ tokenLength (drop c s) = rw ed (add-sub-cancel-left c (tokenLength (drop c s))) in
       rw (n, from-c)
 
   module _ (e : ℕ) (ee : e ≡ d + spaces (drop d s)) where
-    from-e : drop e s ≡ dropSpace (behind (behind s))
+    from-e : drop e s ≡ dropSpace (after (after s))
     from-e = ap (λ (i : ℕ). drop i s) ee ∙ sym (drop-drop (spaces (drop d s)) d s) ∙ rw from-d
 
     pub text-more : (e ≡ length s → ⊥) → circle.Fault ≡ circleOf s
@@ -133,12 +117,12 @@ module _ (s : List ℕ) (a b c d : ℕ) (ea : a ≡ 0 + spaces (drop 0 s)) (eb :
         ⊎-elim
         (λ z. absurd (n (reached (rw ee (spaces-within s d within-d)) (sym (length-drop e s) ∙ ap length (from-e ∙ z)))))
         (λ t. sym (circle-more s t))
-        (token-or-end (behind (behind s)))
+        (token-or-end (after (after s)))
       where
         reached : e ≤ length s → length s - e ≡ 0 → e ≡ length s
         reached h q = omega arith
 
     pub text-two : e ≡ length s → (p : Pair) (r : Radius) (o : Circle) → p ≡ pairOf (take (b - a) (drop a s)) → r ≡ radiusOf (take (d - c) (drop c s)) → o ≡ circleFrom p r → o ≡ circleOf s
     text-two q p r o ep er eo =
-        let z : dropSpace (behind (behind s)) ≡ [] = sym from-e ∙ drop-of-length-le s {i = e} (omega arith) in
+        let z : dropSpace (after (after s)) ≡ [] = sym from-e ∙ drop-of-length-le s {i = e} (omega arith) in
         eo ∙ rw (ep, er, first-is, second-is) (sym (circle-two s z))

@@ -110,7 +110,7 @@ fn circle_from(p: Pair, r: Radius) -> Circle
     Circle::Around(centre, metres)
 }
 
-// The circle that a text writes: a pair and a radius, with white space between, in front and behind.
+// The circle that a text writes: a pair and a radius, with white space between, before and after.
 pub fn read_circle(s: &[u8]) -> Circle
     ensures { λ r. ⌜ r ≡ circleOf (now (s .entry)) ⌝ }
 {

@@ -3,7 +3,7 @@ use mathlib.Core.Path.{_≡_, refl, sym, _∙_}
 use mathlib.Core.Bool.{Bool, true, false, cond, _||_}
 use mathlib.Core.List.{List}
 use Prim.Native.Char.{code}
-use Prim.Native.Nat.{ℕ, _+_, _≤_, _<_}
+use Prim.Native.Nat.{ℕ, _+_, _-_, _≤_, _<_}
 use native.Mathlib.Omega.{arith}
 use borrow.Author.Tests.{le-leb, lt-leb}
 use lib.ListN.{length, drop}
@@ -13,7 +13,7 @@ use lib.Signed.{mag}
 use mir.Syntax.{w32}
 use mir.Val.{SFits, toZ, ofZ}
 use mir.Facts.{toZ-pos, toZ-ofZ}
-use Rattle.text.specs.Logic.{by-test, first-arm, second-arm}
+use Rattle.text.specs.Logic.{by-test, first-arm, second-arm, clash}
 use Rattle.integers.specs.Magnitude.{abs-neg, mag-abs, signed}
 use Rattle.integers.specs.Bits.{read, read-given-32}
 use Rattle.coordinates.specs.Decimal.{leads, scaled, decimalLength, decimalAt}
@@ -58,7 +58,7 @@ module _ (m : ℕ) (h : m ≤ 1_800_000_000) where
 -- ---- the reader's answers
 
 fault≢value : (z : ℤ) (e : ℕ) → Fault ≡ Value z e → ⊥
-fault≢value z e q = let z : _≡_ {A = ℕ} 0 1 = cc in omega arith
+fault≢value z e q = clash (cc)
 
 signed-is : (b : Bool) (m : ℕ) → signed b m ≡ cond b (negℤ (pos m)) (pos m)
 signed-is true m = refl
@@ -88,7 +88,7 @@ module _ (s : List ℕ) (at limit start : ℕ) (b : start ≡ at + signLength (d
 
 -- ---- what a coordinate that was read says
 
--- z is the coordinate at place i, and e the place behind it
+-- z is the coordinate at place i, and e the place after it
 pub record Measured (limit i : ℕ) (l : List ℕ) (z : ℤ) (e : ℕ) : Type 0 where
   pub is : isCoordinate limit l ≡ true
   pub value : z ≡ coordinateValue l
@@ -102,6 +102,18 @@ module _ (limit i : ℕ) (l : List ℕ) where
   pub not-measured : coordinateAt limit i l ≡ Fault → isCoordinate limit l ≡ false
   unfolding coordinateAt
   not-measured q = second-arm _ _ _ (isCoordinate limit l) q (λ p. fault≢value _ _ (sym p))
+
+  -- the same coordinate, in a text that stands at place j
+  pub from-place : (j : ℕ) (z : ℤ) (e : ℕ) → coordinateAt limit i l ≡ Value z e → coordinateAt limit j l ≡ Value z (j + (e - i))
+  unfolding coordinateAt
+  from-place j z e q =
+      let m = measured z e q in
+      let k : j + (signLength l + decimalLength (unsigned l)) ≡ j + (e - i) = omega (arith, m .end) in
+      rw (m .is, m .value, k)
+
+  pub no-place : (j : ℕ) → coordinateAt limit i l ≡ Fault → coordinateAt limit j l ≡ Fault
+  unfolding coordinateAt
+  no-place j q = rw (not-measured q)
 
   pub coordinate-start : (z : ℤ) (e : ℕ) → coordinateAt limit i l ≡ Value z e → i ≤ e
   coordinate-start z e q = omega (arith, measured z e q .end)

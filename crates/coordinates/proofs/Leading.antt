@@ -28,5 +28,5 @@ module _ (s : List ℕ) (i b : ℕ) where
       (λ t. absurd (false≢true (sym (leads-none (ltb-false i (length s) t)) ∙ e)))
 
 -- what stands at a place of the rest from i on, by its place in the text
-pub drop-behind : (s : List ℕ) (i e : ℕ) → i ≤ e → drop (e - i) (drop i s) ≡ drop e s
-drop-behind s i e h = drop-drop (e - i) i s ∙ rw (add-sub-of-le h)
+pub drop-after : (s : List ℕ) (i e : ℕ) → i ≤ e → drop (e - i) (drop i s) ≡ drop e s
+drop-after s i e h = drop-drop (e - i) i s ∙ rw (add-sub-of-le h)

@@ -6,4 +6,3 @@ pub mod Decimals
 pub mod Coordinates
 pub mod Readers
 pub mod Tokens
-pub mod Bounds

@@ -14,7 +14,7 @@ use lib.Seq.{drop-cons}
 use mir.Syntax.{w64}
 use mir.Val.{Fits}
 use Rattle.text.specs.Bytes.{isDigit, digits, numberFrom, number}
-use Rattle.text.specs.Logic.{by-test, and-left, and-right, first-arm, second-arm}
+use Rattle.text.specs.Logic.{by-test, and-left, and-right, first-arm, second-arm, clash}
 use Rattle.coordinates.specs.Run.{runOf}
 use Rattle.coordinates.specs.declared.Run.{Run}
 use Rattle.coordinates.specs.declared.Run.the-variants.{Value, TooLong}
@@ -22,7 +22,7 @@ use Rattle.coordinates.proofs.Tens.{tens-le}
 
 -- ---- one step
 
--- the digits that lead the text l, which stands at place i, if they are at most `left`, behind digits that wrote v
+-- the digits that lead the text l, which stands at place i, if they are at most `left`, after digits that wrote v
 unfoldable pub runFrom : ℕ → ℕ → ℕ → List ℕ → Run
 runFrom left i v l = cond (leb (digits l) left) (Value (numberFrom v (take (digits l) l)) (i + digits l)) TooLong
 
@@ -37,7 +37,7 @@ leb-less d left h =
     (λ t. lt-leb (suc d) left (omega (arith, leb-false d (left - 1) t)) ∙ sym t)
 
 digit-on : (left i v b : ℕ) (l : List ℕ) → 0 < left → isDigit b ≡ true → runFrom left i v (b ∷ l) ≡ runFrom (left - 1) (suc i) (v * 10 + (b - code "0")) l
-unfolding runFrom digits numberFrom
+unfolding runFrom numberFrom
 digit-on left i v b l h e =
     let n : 10 * v + (b - code "0") ≡ v * 10 + (b - code "0") = omega arith in
     let p : i + suc (digits l) ≡ suc i + digits l = omega arith in
@@ -52,15 +52,13 @@ module _ (s : List ℕ) (i left v : ℕ) where
   run-on h e m = rw (drop-cons s i 0 h, add-one i) (digit-on left i v (getD s i 0) (drop (suc i) s) m e)
 
   pub run-stop : i < length s → isDigit (getD s i 0) ≡ false → runFrom left i v (drop i s) ≡ Value v i
-  unfolding digits
   run-stop h e = no-digits left i v (drop i s) (rw (drop-cons s i 0 h, e))
 
   pub run-end : length s ≤ i → runFrom left i v (drop i s) ≡ Value v i
-  unfolding digits
   run-end h = no-digits left i v (drop i s) (rw (drop-of-length-le s h))
 
   pub run-long : i < length s → isDigit (getD s i 0) ≡ true → left ≡ 0 → runFrom left i v (drop i s) ≡ TooLong
-  unfolding runFrom digits
+  unfolding runFrom
   run-long h e z = rw (z, drop-cons s i 0 h, e, leb·suc-zero)
 
 -- ---- how large a run's number is
@@ -97,7 +95,7 @@ less-by-ten n b t x e h =
     lt-of-lt-of-le h (rw (mul-comm t 10, ← mul-assoc) (mul-le-mul-right t g))
 
 number-from-lt : (n : ℕ) (l : List ℕ) → numberFrom n (take (digits l) l) < suc n * 10 ^ digits l
-unfolding digits numberFrom
+unfolding numberFrom
 number-from-lt n [] = omega arith
 number-from-lt n (b ∷ l) =
     by-test (isDigit b)
@@ -109,14 +107,14 @@ number-lt l = omega (arith, number-from-lt 0 l)
 
 -- ---- what a run that was read says
 
--- v is the number that the digits at place i write, at most `most` of them, and e the place behind them
+-- v is the number that the digits at place i write, at most `most` of them, and e the place after them
 pub record Ran (most i : ℕ) (l : List ℕ) (v e : ℕ) : Type 0 where
   pub few : digits l ≤ most
   pub value : v ≡ number (take (digits l) l)
   pub end : e ≡ i + digits l
 
 long≢value : (v e : ℕ) → TooLong ≡ Value v e → ⊥
-long≢value v e q = let z : _≡_ {A = ℕ} 0 1 = cc in omega arith
+long≢value v e q = clash (cc)
 
 module _ (most i : ℕ) (l : List ℕ) where
   pub ran : (v e : ℕ) → runOf most i l ≡ Value v e → Ran most i l v e

@@ -18,22 +18,22 @@ leads b (c ∷ l) = eqb c b
 
 -- ---- digits, optionally a point and digits
 
--- the digits before the point, and what stands behind them
+-- the digits before the point, and what stands after them
 abbrev pub whole : List ℕ → List ℕ
 whole l = take (digits l) l
 
-abbrev pub behindWhole : List ℕ → List ℕ
-behindWhole l = drop (digits l) l
+abbrev pub afterWhole : List ℕ → List ℕ
+afterWhole l = drop (digits l) l
 
 abbrev pub hasPoint : List ℕ → Bool
-hasPoint l = leads (code ".") (behindWhole l)
+hasPoint l = leads (code ".") (afterWhole l)
 
--- how many digits stand behind the point, and these digits; none without a point
+-- how many digits stand after the point, and these digits; none without a point
 unfoldable pub places : List ℕ → ℕ
-places l = cond (hasPoint l) (digits (drop 1 (behindWhole l))) 0
+places l = cond (hasPoint l) (digits (drop 1 (afterWhole l))) 0
 
 unfoldable pub fraction : List ℕ → List ℕ
-fraction l = take (places l) (drop 1 (behindWhole l))
+fraction l = take (places l) (drop 1 (afterWhole l))
 
 unfoldable pub decimalLength : List ℕ → ℕ
 decimalLength l = cond (hasPoint l) (digits l + (1 + places l)) (digits l)
@@ -42,7 +42,7 @@ decimalLength l = cond (hasPoint l) (digits l + (1 + places l)) (digits l)
 unfoldable pub isDecimal : ℕ → ℕ → List ℕ → Bool
 isDecimal w f l = leb 1 (digits l) && leb (digits l) w && (not (hasPoint l) || leb 1 (places l) && leb (places l) f)
 
--- the number that is written, in units of the f-th place behind the point
+-- the number that is written, in units of the f-th place after the point
 unfoldable pub scaled : ℕ → List ℕ → ℕ
 scaled f l = number (whole l) * 10 ^ f + number (fraction l) * 10 ^ (f - places l)
 

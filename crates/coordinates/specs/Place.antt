@@ -1,7 +1,7 @@
 -- Latitudes, longitudes and pairs of them (document 01, "The packet" and "Is the studio inside"), in units of 1e-7 degree.
 use mathlib.Core.Bool.{Bool, cond, _&&_, _||_}
 use mathlib.Core.List.{List}
-use Prim.Native.Nat.{ℕ, _+_, _-_}
+use Prim.Native.Nat.{ℕ, _+_}
 use Prim.Native.Char.{code}
 use lib.Dec.{eqb, leb}
 use lib.IntN.{ℤ, pos, negℤ}
@@ -63,28 +63,29 @@ degreesOf limit l = wholeText (length l) (coordinateAt limit 0 l)
 
 -- ---- "A pair is latitude, comma, longitude"
 
-abbrev pub withLongitude : ℤ → Degrees → Pair
-withLongitude y (degrees.Units x) = pair.At (record { lat = y; lon = x })
-withLongitude y degrees.Fault = pair.Fault
+abbrev pub withLongitude : ℤ → Coordinate → LeadingPair
+withLongitude y (Value x e) = leading.At (record { lat = y; lon = x }) e
+withLongitude y Fault = leading.Fault
 
-abbrev pub withLatitude : List ℕ → Coordinate → Pair
-withLatitude l (Value y e) =
-    cond (leads (code ",") (drop e l)) (withLongitude y (degreesOf longitudeLimit (drop (e + 1) l))) pair.Fault
-withLatitude l Fault = pair.Fault
+-- k bytes are the latitude y
+abbrev pub withLatitude : List ℕ → Coordinate → LeadingPair
+withLatitude l (Value y k) =
+    cond (leads (code ",") (drop k l)) (withLongitude y (coordinateAt longitudeLimit (k + 1) (drop (k + 1) l))) leading.Fault
+withLatitude l Fault = leading.Fault
+
+-- the pair that leads a text, and how many bytes it has
+abbrev pub leadingPair : List ℕ → LeadingPair
+leadingPair l = withLatitude l (coordinateAt latitudeLimit 0 l)
+
+-- the same, in a text that stands at place i: the pair and the place after it
+abbrev pub standingAt : ℕ → LeadingPair → LeadingPair
+standingAt i (leading.At p n) = leading.At p (i + n)
+standingAt i leading.Fault = leading.Fault
+
+-- the pair that a whole text of n bytes writes
+abbrev pub wholePair : ℕ → LeadingPair → Pair
+wholePair n (leading.At p e) = cond (eqb e n) (pair.At p) pair.Fault
+wholePair n leading.Fault = pair.Fault
 
 unfoldable pub pairOf : List ℕ → Pair
-pairOf l = withLatitude l (coordinateAt latitudeLimit 0 l)
-
--- the pair that leads a text, and the place behind it
-abbrev pub leadingBehind : ℤ → Coordinate → LeadingPair
-leadingBehind y (Value x e) = leading.At (record { lat = y; lon = x }) e
-leadingBehind y Fault = leading.Fault
-
--- i is the place of the text l; k the place behind its latitude
-abbrev pub leadingFrom : ℕ → List ℕ → Coordinate → LeadingPair
-leadingFrom i l (Value y k) =
-    cond (leads (code ",") (drop (k - i) l)) (leadingBehind y (coordinateAt longitudeLimit (k + 1) (drop (k - i + 1) l))) leading.Fault
-leadingFrom i l Fault = leading.Fault
-
-unfoldable pub leadingPair : ℕ → List ℕ → LeadingPair
-leadingPair i l = leadingFrom i l (coordinateAt latitudeLimit i l)
+pairOf l = wholePair (length l) (leadingPair l)

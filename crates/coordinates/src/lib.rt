@@ -5,7 +5,7 @@ ghost use lib.IntN.{natAbs, _-ℤ_};
 ghost use Prim.Native.Nat.{_≤_};
 ghost use lib.ListN.{drop};
 ghost use Rattle.coordinates.specs.Decimal.{radiusOf};
-ghost use Rattle.coordinates.specs.Place.{latitudeLimit, longitudeLimit, within, inRange, degreesOf, pairOf, leadingPair};
+ghost use Rattle.coordinates.specs.Place.{latitudeLimit, longitudeLimit, within, inRange, degreesOf, pairOf, leadingPair, standingAt};
 
 mod scan;
 
@@ -23,19 +23,19 @@ pub struct Place {
     pub lon: i32,
 }
 
-// The number that a run of digits writes and the place behind it, or that it has too many digits.
+// The number that a run of digits writes and the place after it, or that it has too many digits.
 pub enum Run {
     Value(u64, usize),
     TooLong,
 }
 
-// A number that a decimal writes and the place behind it, or that no such decimal stands there.
+// A number that a decimal writes and the place after it, or that no such decimal stands there.
 pub enum Decimal {
     Value(u64, usize),
     Fault,
 }
 
-// A signed coordinate and the place behind it, or that none stands there.
+// A signed coordinate and the place after it, or that none stands there.
 pub enum Coordinate {
     Value(i32, usize),
     Fault,
@@ -53,7 +53,7 @@ pub enum Pair {
     Fault,
 }
 
-// A place that leads a text and the place behind it, or that none does.
+// A place that leads a text and the place after it, or that none does.
 pub enum LeadingPair {
     At(Place, usize),
     Fault,
@@ -113,37 +113,33 @@ pub fn distance(a: i32, b: i32) -> u64
 pub fn read_latitude(text: &[u8]) -> Degrees
     ensures { λ r. ⌜ r ≡ degreesOf latitudeLimit (now (text .entry)) ⌝ }
 {
-    whole_text(text, 0, LATITUDE_LIMIT)
+    whole_text(text, LATITUDE_LIMIT)
 }
 
 // The longitude that a text writes.
 pub fn read_longitude(text: &[u8]) -> Degrees
     ensures { λ r. ⌜ r ≡ degreesOf longitudeLimit (now (text .entry)) ⌝ }
 {
-    whole_text(text, 0, LONGITUDE_LIMIT)
+    whole_text(text, LONGITUDE_LIMIT)
 }
 
 // The place that a text writes: latitude, comma, longitude.
 pub fn read_pair(text: &[u8]) -> Pair
     ensures { λ r. ⌜ r ≡ pairOf (now (text .entry)) ⌝ }
 {
-    let y = scan::coordinate_at(text, 0, LATITUDE_LIMIT);
-    let Coordinate::Value(lat, comma) = y else {
+    let pair = leading_pair(text, 0);
+    let LeadingPair::At(place, next) = pair else {
         return Pair::Fault;
     };
-    if !scan::leads(text, comma, b',') {
+    if next != text.len() {
         return Pair::Fault;
     }
-    let x = whole_text(text, comma + 1, LONGITUDE_LIMIT);
-    match x {
-        Degrees::Units(lon) => Pair::At(Place { lat, lon }),
-        Degrees::Fault => Pair::Fault,
-    }
+    Pair::At(place)
 }
 
-// The place that stands from `at` on: latitude, comma, longitude. What stands behind it isn't looked at.
+// The place that stands from `at` on: latitude, comma, longitude. What stands after it isn't looked at.
 pub fn leading_pair(text: &[u8], at: usize) -> LeadingPair
-    ensures { λ r. ⌜ r ≡ leadingPair at (drop at (now (text .entry))) ⌝ }
+    ensures { λ r. ⌜ r ≡ standingAt at (leadingPair (drop at (now (text .entry)))) ⌝ }
 {
     let y = scan::coordinate_at(text, at, LATITUDE_LIMIT);
     let Coordinate::Value(lat, comma) = y else {
@@ -176,12 +172,12 @@ pub fn read_radius(text: &[u8]) -> Radius
     Radius::Metres(metres as u32)
 }
 
-// The coordinate that a text writes from `at` to its end.
-fn whole_text(text: &[u8], at: usize, limit: u64) -> Degrees
+// The coordinate that a text writes.
+fn whole_text(text: &[u8], limit: u64) -> Degrees
     requires { ⌜ limit ≤ 1_800_000_000 ⌝ }
-    ensures { λ r. ⌜ r ≡ degreesOf limit (drop at (now (text .entry))) ⌝ }
+    ensures { λ r. ⌜ r ≡ degreesOf limit (now (text .entry)) ⌝ }
 {
-    let c = scan::coordinate_at(text, at, limit);
+    let c = scan::coordinate_at(text, 0, limit);
     let Coordinate::Value(units, end) = c else {
         return Degrees::Fault;
     };

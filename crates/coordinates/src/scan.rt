@@ -107,7 +107,7 @@ pub fn decimal_at(s: &[u8], at: usize, whole: usize, places: usize) -> Decimal
     Decimal::Value(value + scale(parts, places - (end - start)), end)
 }
 
-// The place behind a sign at `at`, or `at` where none stands.
+// The place after a sign at `at`, or `at` where none stands.
 fn after_sign(s: &[u8], at: usize) -> usize
     ensures { λ r. ⌜ r ≡ at + signLength (drop at (now (s .entry))) ⌝ }
 {

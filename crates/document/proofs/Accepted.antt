@@ -1,57 +1,65 @@
--- What holds of every accepted document, from what holds of every step: one induction over its constructs.
+-- What holds of every document's verdict, from what holds of every step: one induction over its constructs.
 use mathlib.Core.Path.{_≡_, refl, subst}
 use mathlib.Core.List.{List, [], _∷_, _++_}
-use Prim.Native.Nat.{ℕ, zero, suc}
+use Prim.Native.Nat.{ℕ, zero, suc, _≤_}
 use native.Mathlib.Omega.{arith}
-use lib.Dec.{ltb}
 use lib.ListN.{length}
-use Rattle.text.specs.Logic.{cond-cases}
-use Rattle.xml.specs.declared.Prolog.{Prolog}
-use Rattle.xml.specs.declared.Prolog.the-variants as prolog
-use Rattle.xml.specs.Opening as opening
 use Rattle.document.specs.declared.Mode.{Mode}
 use Rattle.document.specs.declared.Event.{Event}
 use Rattle.document.specs.declared.Step.{Step}
 use Rattle.document.specs.declared.Step.the-variants.{Next, Done, Refused}
 use Rattle.document.specs.Elements.{Element, Verdict, accepted, refused, given}
 use Rattle.document.specs.Constructs.{stepOf}
-use Rattle.document.specs.Documents.{elementsOf, after, run, begin, prologed, documentOf}
+use Rattle.document.specs.Documents.{elementsOf, begin, after, run, readFrom, documentOf}
+use Rattle.document.proofs.Events.{refusal}
+use Rattle.document.proofs.Runs.{first-holds}
 
-never : {X : Type 0} (n p : ℕ) (es : List Element) → refused n p ≡ accepted es → X
-never n p es q = let z : _≡_ {A = ℕ} 0 1 = cc in absurd (omega arith)
-
-same-list : (xs es : List Element) → accepted xs ≡ accepted es → xs ≡ es
-same-list xs es q = cc
-
--- something that holds where the document is done, and before each step if it holds behind it
+-- something that holds where the document is done, and before each step if it holds after it
 module _ (l : List ℕ) (Q : Mode → List Element → Type 0)
     (last : (m : Mode) → stepOf l m ≡ Done → Q m [])
     (front : (m m′ : Mode) (e : Event) (es : List Element) → stepOf l m ≡ Next m′ e → Q m′ es → Q m (elementsOf l e ++ es)) where
-  given-holds : (m : Mode) (xs es : List Element) (v : Verdict) → ((ys : List Element) → v ≡ accepted ys → Q m (xs ++ ys)) → given xs v ≡ accepted es → Q m es
-  given-holds m xs es (accepted ys) h q = subst (Q m) (same-list (xs ++ ys) es q) (h ys refl)
-  given-holds m xs es (refused n p) h q = never n p es q
+  -- of a verdict from a mode on: of its elements, or its place lies in the document or at its length
+  abbrev VerdictHolds : Mode → Verdict → Type 0
+  VerdictHolds m (accepted es) = Q m es
+  VerdictHolds m (refused n p) = p ≤ length l
 
-  run-holds : (n : ℕ) (m : Mode) (es : List Element) → run n l m ≡ accepted es → Q m es
+  given-holds : (m m′ : Mode) (e : Event) (v : Verdict) → stepOf l m ≡ Next m′ e → VerdictHolds m′ v → VerdictHolds m (given (elementsOf l e) v)
+  given-holds m m′ e (accepted es) p h = front m m′ e es p h
+  given-holds m m′ e (refused n q) p h = h
+
+  run-holds : (n : ℕ) (m : Mode) → VerdictHolds m (run n l m)
   unfolding run
-  run-holds zero m es q = never 15 (length l) es q
-  run-holds (suc n) m es q = go (stepOf l m) refl (run-holds n) q
+  run-holds zero m = omega arith
+  run-holds (suc n) m = go (stepOf l m) refl (run-holds n)
     where
-      go : (r : Step) → stepOf l m ≡ r → ((m′ : Mode) (ys : List Element) → run n l m′ ≡ accepted ys → Q m′ ys) → after l (run n l) r ≡ accepted es → Q m es
-      go (Next m′ e) p rest w = given-holds m (elementsOf l e) es (run n l m′) (λ ys v. front m m′ e ys p (rest m′ ys v)) w
-      go Done p rest w = subst (Q m) (same-list [] es w) (last m p)
-      go (Refused a b) p rest w = never a b es w
+      go : (r : Step) → stepOf l m ≡ r → ((m′ : Mode) → VerdictHolds m′ (run n l m′)) → VerdictHolds m (after l (run n l) r)
+      go (Next m′ e) p rest = given-holds m m′ e (run n l m′) p (rest m′)
+      go Done p rest = last m p
+      go (Refused a b) p rest = refusal l m a b p
 
-  -- it holds of an accepted document's elements, from where its first construct may stand
-  pub accepted-holds : (es : List Element) → documentOf l ≡ accepted es → (at : ℕ) × Q (begin at) es
+  -- of the whole document, whose first construct may stand anywhere
+  abbrev DocumentHolds : Verdict → Type 0
+  DocumentHolds (accepted es) = (at : ℕ) × Q (begin at) es
+  DocumentHolds (refused n p) = p ≤ length l
+
+  document-holds : DocumentHolds (documentOf l)
   unfolding documentOf
-  accepted-holds es = cond-cases Held (ltb 65_536 (length l)) _ _ (λ e. never 14 0 es) (λ e. behind (opening.prolog l))
+  document-holds =
+      first-holds l (λ (r : Step). DocumentHolds (after l (readFrom l) r)) (λ n p h. h)
+      (λ at. go at (readFrom l (begin at)) (run-holds (suc (length l)) (begin at)))
     where
-      Held : Verdict → Type 0
-      Held v = v ≡ accepted es → (at : ℕ) × Q (begin at) es
+      go : (at : ℕ) (v : Verdict) → VerdictHolds (begin at) v → DocumentHolds (given [] v)
+      go at (accepted es) h = (at, h)
+      go at (refused n p) h = h
 
-      behind : (r : Prolog) → prologed l r ≡ accepted es → (at : ℕ) × Q (begin at) es
-      behind (prolog.Behind at) w = (at, run-holds (suc (length l)) (begin at) es w)
-      behind (prolog.Fault p) w = never 15 p es w
+  pub accepted-holds : (es : List Element) → documentOf l ≡ accepted es → (at : ℕ) × Q (begin at) es
+  accepted-holds es d = subst DocumentHolds d document-holds
+
+-- every refusal's place lies in the document or at its length
+pub offset-within : (l : List ℕ) (n p : ℕ) → documentOf l ≡ refused n p → p ≤ length l
+offset-within l n p d =
+    let All : Mode → List Element → Type 0 = λ m es. Prim.Unit in
+    subst (DocumentHolds l All (λ m q. tt) (λ m m′ e es q h. tt)) d (document-holds l All (λ m q. tt) (λ m m′ e es q h. tt))
 
 -- ---- every element
 

@@ -1,12 +1,8 @@
 pub mod Events
-pub mod Ahead
 pub mod Runs
-pub mod Answers
-pub mod Places
+pub mod Loops
 pub mod Accepted
 pub mod Sound
 pub mod Schema
 pub mod Prefixes
-pub mod ElementSteps
-pub mod TagSteps
 pub mod Steps

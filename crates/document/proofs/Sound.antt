@@ -14,7 +14,7 @@ use Rattle.document.specs.declared.Event.{Event}
 use Rattle.document.specs.declared.Event.the-variants.{Silent, Opened, Text, Closed}
 use Rattle.document.specs.Elements.{Element, opened, text, closed, accepted}
 use Rattle.document.specs.Documents.{elementsOf, documentOf}
-use Rattle.document.proofs.Events.{Whole, Told, onward}
+use Rattle.document.proofs.Events.{Whole, SoundEvent, onward}
 use Rattle.document.proofs.Accepted.{Every, accepted-every}
 
 -- a part inside a list is as long as its places say
@@ -30,14 +30,14 @@ module _ (l : List ℕ) (P : Element → Type 0)
     (of-container : (c p : ℕ) → c ≤ class.lastContainer → P (opened c p))
     (of-text : (c from until : ℕ) → Whole l c from until → P (text c from (part l from until)))
     (of-end : (c : ℕ) → P (closed c)) where
-  told-every : (row : ℕ) (e : Event) → Told l row e → Every P (elementsOf l e)
-  told-every row Silent h = tt
-  told-every row (Opened c p) h = (of-container c p h, tt)
-  told-every row (Text c from until) h = (of-text c from until h, tt)
-  told-every row (Closed c) h = (of-end c, tt)
+  event-every : (state : ℕ) (e : Event) → SoundEvent l state e → Every P (elementsOf l e)
+  event-every state Silent h = tt
+  event-every state (Opened c p) h = (of-container c p h, tt)
+  event-every state (Text c from until) h = (of-text c from until h, tt)
+  event-every state (Closed c) h = (of-end c, tt)
 
-  all-told : (es : List Element) → documentOf l ≡ accepted es → Every P es
-  all-told = accepted-every P l (λ m m′ e p. told-every (m .row) e (onward l m m′ e p .told))
+  pub all-hold : (es : List Element) → documentOf l ≡ accepted es → Every P es
+  all-hold = accepted-every P l (λ m m′ e p. event-every (m .state) e (onward l m m′ e p .event))
 
 -- ---- every text keeps to its rule
 
@@ -47,7 +47,7 @@ Ruled (text c p t) = textRule c t ≡ 0
 Ruled (closed c) = Prim.Unit
 
 pub all-ruled : (l : List ℕ) (es : List Element) → documentOf l ≡ accepted es → Every Ruled es
-all-ruled l = all-told l Ruled (λ c p h. tt) (λ c from until w. w .rule) (λ c. tt)
+all-ruled l = all-hold l Ruled (λ c p h. tt) (λ c from until w. w .rule) (λ c. tt)
 
 -- ---- every text is a part of the document
 
@@ -56,13 +56,13 @@ Shown l (opened c p) = Prim.Unit
 Shown l (text c p t) = (t ≡ part l p (p + length t)) × (p + length t ≤ length l)
 Shown l (closed c) = Prim.Unit
 
-whole-shown : (l : List ℕ) (c from until : ℕ) → Whole l c from until → Shown l (text c from (part l from until))
+pub whole-shown : (l : List ℕ) (c from until : ℕ) → Whole l c from until → Shown l (text c from (part l from until))
 whole-shown l c from until w =
     let e = part-length l from until (w .ordered) (w .inside) in
     (ap (part l from) (sym e), rw e (w .inside))
 
 pub all-shown : (l : List ℕ) (es : List Element) → documentOf l ≡ accepted es → Every (Shown l) es
-all-shown l = all-told l (Shown l) (λ c p h. tt) (whole-shown l) (λ c. tt)
+all-shown l = all-hold l (Shown l) (λ c p h. tt) (whole-shown l) (λ c. tt)
 
 -- ---- no text has a fault of form
 
@@ -71,11 +71,11 @@ Clean l (opened c p) = Prim.Unit
 Clean l (text c p t) = (i : ℕ) → p ≤ i → i < p + length t → isFault (drop i l) ≡ false
 Clean l (closed c) = Prim.Unit
 
-whole-clean : (l : List ℕ) (c from until : ℕ) → Whole l c from until → Clean l (text c from (part l from until))
+pub whole-clean : (l : List ℕ) (c from until : ℕ) → Whole l c from until → Clean l (text c from (part l from until))
 whole-clean l c from until w i h k = w .clean i h (rw (part-length l from until (w .ordered) (w .inside)) at k)
 
 pub all-clean : (l : List ℕ) (es : List Element) → documentOf l ≡ accepted es → Every (Clean l) es
-all-clean l = all-told l (Clean l) (λ c p h. tt) (whole-clean l) (λ c. tt)
+all-clean l = all-hold l (Clean l) (λ c p h. tt) (whole-clean l) (λ c. tt)
 
 -- ---- containers start, leaves have texts
 
@@ -85,4 +85,4 @@ Sorted (text c p t) = class.lastContainer < c
 Sorted (closed c) = Prim.Unit
 
 pub all-sorted : (l : List ℕ) (es : List Element) → documentOf l ≡ accepted es → Every Sorted es
-all-sorted l = all-told l Sorted (λ c p h. h) (λ c from until w. w .leaf) (λ c. tt)
+all-sorted l = all-hold l Sorted (λ c p h. h) (λ c from until w. w .leaf) (λ c. tt)

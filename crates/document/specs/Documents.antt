@@ -1,5 +1,5 @@
 -- The whole document, "strictly left to right".
-use mathlib.Core.Bool.{Bool, true, false, cond}
+use mathlib.Core.Bool.{cond}
 use mathlib.Core.List.{List, [], _∷_}
 use Prim.Native.Nat.{ℕ, zero, suc}
 use lib.Dec.{ltb}
@@ -26,6 +26,22 @@ elementsOf l (Opened c p) = opened c p ∷ []
 elementsOf l (Text c from until) = text c from (part l from until) ∷ []
 elementsOf l (Closed c) = closed c ∷ []
 
+-- before the first construct
+abbrev pub begin : ℕ → Mode
+begin at = record { at = at; state = before; leaf = 0; infos = 0; «prefix_start» = 0; «prefix_end» = 0 }
+
+-- what stands before the first construct
+abbrev pub prologStep : Prolog → Step
+prologStep (prolog.After at) = Next (begin at) Silent
+prologStep (prolog.Fault p) = Refused 15 p
+
+-- 14: "CAP document over 65,536 bytes"
+abbrev pub maxLength : ℕ
+maxLength = 65_536
+
+unfoldable pub firstStep : List ℕ → Step
+firstStep l = cond (ltb maxLength (length l)) (Refused 14 0) (prologStep (opening.prolog l))
+
 -- a step, and the rest of the document by what comes after it
 abbrev pub after : List ℕ → (Mode → Verdict) → Step → Verdict
 after l rest (Next m e) = given (elementsOf l e) (rest m)
@@ -37,21 +53,13 @@ unfoldable pub run : ℕ → List ℕ → Mode → Verdict
 run zero l m = refused 15 (length l)
 run (suc n) l m = after l (run n l) (stepOf l m)
 
--- before the first construct
-abbrev pub begin : ℕ → Mode
-begin at = record { at = at; row = before; leaf = 0; infos = 0; prefix = 0; until = 0 }
-
 -- each construct takes a byte at least, so one more than there are bytes is enough
 abbrev pub readFrom : List ℕ → Mode → Verdict
 readFrom l m = run (suc (length l)) l m
 
-abbrev pub prologed : List ℕ → Prolog → Verdict
-prologed l (prolog.Behind at) = readFrom l (begin at)
-prologed l (prolog.Fault p) = refused 15 p
-
 -- "14 for length first, then strictly left to right"
 unfoldable pub documentOf : List ℕ → Verdict
-documentOf l = cond (ltb 65_536 (length l)) (refused 14 0) (prologed l (opening.prolog l))
+documentOf l = after l (readFrom l) (firstStep l)
 
 -- the answer to checking a document: "refused with number and place", or accepted with the number of parts
 abbrev pub checked : Verdict → Check

@@ -1,21 +1,21 @@
 -- What a document is: its elements in their order, or a refusal.
-use mathlib.Core.Bool.{Bool, true, false}
+use mathlib.Core.Bool.{Bool, false}
 use mathlib.Core.List.{List, [], _∷_, _++_}
 use Prim.Native.Nat.{ℕ, _+_}
 use lib.Dec.{eqb}
 use mir.Val.{boolByte}
 use Rattle.schema.specs.Classes as class
 
--- a container's start tag at a place; a leaf's text, from the byte behind its start tag on; a container's end
+-- a container's start tag at a place; a leaf's text, from the byte after its start tag on; a container's end
 pub data Element : Type 0 where
-  opened : (class place : ℕ) → Element
-  text : (class place : ℕ) (bytes : List ℕ) → Element
+  opened : (class offset : ℕ) → Element
+  text : (class offset : ℕ) (bytes : List ℕ) → Element
   closed : (class : ℕ) → Element
 
 -- "A refusal gives the number and a place"
 pub data Verdict : Type 0 where
   accepted : (elements : List Element) → Verdict
-  refused : (number place : ℕ) → Verdict
+  refused : (number offset : ℕ) → Verdict
 
 -- elements in front of those of a verdict
 abbrev pub given : List Element → Verdict → Verdict
@@ -38,11 +38,20 @@ total es = starts class.info es
 
 -- ---- facts of a document are gathered from its elements one by one
 
-unfoldable pub gather : {F : Type 0} → (F → Element → F) → F → List Element → F
-gather note f [] = f
-gather note f (x ∷ xs) = gather note (note f x) xs
+unfoldable pub fold : {F : Type 0} → (F → Element → F) → F → List Element → F
+fold note f [] = f
+fold note f (x ∷ xs) = fold note (note f x) xs
 
--- an answer by a verdict: by the facts gathered from f on, or by the refusal's number and place
-abbrev pub answer : {F R : Type 0} → (F → R) → (ℕ → ℕ → R) → (F → Element → F) → F → Verdict → R
-answer done stop note f (accepted es) = done (gather note f es)
-answer done stop note f (refused n p) = stop n p
+-- the infos that have started with an element, k before it
+abbrev pub counted : ℕ → Element → ℕ
+counted k x = k + boolByte (isStart class.info x)
+
+-- note n f x: the facts f with what x adds to them, where n infos have started; k have before the elements
+unfoldable pub gather : {F : Type 0} → (ℕ → F → Element → F) → ℕ → F → List Element → F
+gather note k f [] = f
+gather note k f (x ∷ xs) = gather note (counted k x) (note (counted k x) f x) xs
+
+-- an answer by a verdict: by the number of parts and the facts gathered, or by the refusal's number and place
+abbrev pub answer : {F R : Type 0} → (ℕ → F → R) → (ℕ → ℕ → R) → (ℕ → F → Element → F) → ℕ → F → Verdict → R
+answer done stop note k f (accepted es) = done (k + total es) (gather note k f es)
+answer done stop note k f (refused n p) = stop n p

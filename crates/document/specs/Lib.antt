@@ -3,4 +3,3 @@ pub mod Tags
 pub mod Constructs
 pub mod Documents
 pub mod Following
-pub mod Samples

@@ -1,21 +1,23 @@
-// One construct of a document.
+// One construct of a document, after any white space.
 use crate::Event;
 use crate::Mode;
 use crate::Step;
+use crate::modes;
+use crate::modes::after_space;
 use crate::modes::moved;
 use crate::tags::tag_step;
 use xml::Comment;
 ghost use mathlib.Core.Path.{_≡_};
-ghost use Rattle.document.specs.Constructs.{commentStep, stopStep, stepOf};
+ghost use Rattle.document.specs.Constructs.{commentStep, stopStep, constructStep, stepOf};
 
 // A comment.
 fn comment_step(s: &[u8], m: Mode, comment: Comment) -> Step
     ensures { λ r. ⌜ r ≡ commentStep (now (s .entry)) m comment ⌝ }
 {
     match comment {
-        Comment::Behind(next) => {
+        Comment::After(next) => {
             if m.leaf == 0 {
-                return Step::Next(moved(m, next, m.row, 0), Event::Silent);
+                return Step::Next(moved(m, next, m.state, 0), Event::Silent);
             }
             Step::Refused(15, m.at)
         }
@@ -28,32 +30,32 @@ fn comment_step(s: &[u8], m: Mode, comment: Comment) -> Step
 fn stop_step(s: &[u8], m: Mode) -> Step
     ensures { λ r. ⌜ r ≡ stopStep (now (s .entry)) m ⌝ }
 {
-    if m.row == 2 {
+    if m.state == modes::OVER {
         return Step::Done;
     }
     Step::Refused(15, s.len())
 }
 
 // The construct at the mode's place.
-pub fn take_step(s: &[u8], m: Mode) -> Step
-    ensures { λ r. ⌜ r ≡ stepOf (now (s .entry)) m ⌝ }
+fn construct_step(s: &[u8], m: Mode) -> Step
+    ensures { λ r. ⌜ r ≡ constructStep (now (s .entry)) m ⌝ }
 {
     let at = m.at;
     if s.len() <= at {
         return stop_step(s, m);
     }
-    let b = s[at];
-    if text::is_space(b) {
-        return Step::Next(
-            moved(m, text::skip_space(s, at), m.row, m.leaf),
-            Event::Silent,
-        );
-    }
     if text::starts_at(s, at, b"<!--") {
         return comment_step(s, m, xml::comments::read_comment(s, at + 4));
     }
-    if b == b'<' {
+    if s[at] == b'<' {
         return tag_step(s, m);
     }
     Step::Refused(15, at)
+}
+
+// The construct after the white space at the mode's place.
+pub fn take_step(s: &[u8], m: Mode) -> Step
+    ensures { λ r. ⌜ r ≡ stepOf (now (s .entry)) m ⌝ }
+{
+    construct_step(s, after_space(s, m))
 }

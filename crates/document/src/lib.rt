@@ -1,23 +1,26 @@
 // CAP 1.2 documents: which are accepted, and why one is refused.
 use xml::Prolog;
 ghost use mathlib.Core.Path.{_≡_};
-ghost use Rattle.document.specs.Documents.{begin, checked, readFrom, checkOf};
+ghost use Rattle.document.specs.Documents.{firstStep, checkOf};
 
 pub mod constructs; // constructs.rt: one construct
-mod elements; // elements.rt: behind a start tag
+mod elements; // elements.rt: after a start tag
 mod modes; // modes.rt: where reading stands
 mod names; // names.rt: names of tags
 mod tags; // tags.rt: tags
 
-// Where reading stands: the place, the row of the order table, the leaf whose end tag is due (0 for none), the infos so far,
-// and the document's prefix, from one place until another.
+// The largest length of a document, in bytes.
+pub const MAX_LENGTH: usize = 65_536;
+
+// Where reading stands: the place, the state of the container, the leaf whose end tag is due (0 for none), the infos so far,
+// and where the document's prefix stands.
 pub struct Mode {
     pub at: usize,
-    pub row: usize,
+    pub state: usize,
     pub leaf: usize,
     pub infos: usize,
-    pub prefix: usize,
-    pub until: usize,
+    pub prefix_start: usize,
+    pub prefix_end: usize,
 }
 
 // What a construct tells: nothing; a container's start (class, place); a leaf's text (class, from, until); a container's end (class).
@@ -28,7 +31,7 @@ pub enum Event {
     Closed(usize),
 }
 
-// What one construct gives: the mode behind it and what it tells, the document's end, or a refusal (number, place).
+// What one construct gives: the mode after it and what it tells, the document's end, or a refusal (number, place).
 pub enum Step {
     Next(Mode, Event),
     Done,
@@ -41,38 +44,17 @@ pub enum Check {
     Refused(u8, usize),
 }
 
-// The mode before the first construct, which starts at a place.
-pub fn begin(at: usize) -> Mode
-    ensures { λ r. ⌜ r ≡ begin at ⌝ }
+// The first step: past what stands before the first construct, or a refusal. Every loop over a document starts with it.
+pub fn first_step(s: &[u8]) -> Step
+    ensures { λ r. ⌜ r ≡ firstStep (now (s .entry)) ⌝ }
 {
-    Mode {
-        at: at,
-        row: 1,
-        leaf: 0,
-        infos: 0,
-        prefix: 0,
-        until: 0,
+    if MAX_LENGTH < s.len() {
+        return Step::Refused(14, 0);
     }
-}
-
-// Checks the constructs from a place on.
-fn check_from(s: &[u8], at: usize) -> Check
-    ensures { λ r. ⌜ r ≡ checked (readFrom (now (s .entry)) (begin at)) ⌝ }
-{
-    let mut m = begin(at);
-    loop {
-        let step = constructs::take_step(s, m);
-        match step {
-            Step::Next(next, event) => {
-                m = next;
-            }
-            Step::Done => {
-                return Check::Accepted(m.infos);
-            }
-            Step::Refused(number, place) => {
-                return Check::Refused(number, place);
-            }
-        }
+    let prolog = xml::opening::read_prolog(s);
+    match prolog {
+        Prolog::After(at) => Step::Next(modes::begin(at), Event::Silent),
+        Prolog::Fault(offset) => Step::Refused(15, offset),
     }
 }
 
@@ -80,12 +62,20 @@ fn check_from(s: &[u8], at: usize) -> Check
 pub fn check_document(s: &[u8]) -> Check
     ensures { λ r. ⌜ r ≡ checkOf (now (s .entry)) ⌝ }
 {
-    if 65_536 < s.len() {
-        return Check::Refused(14, 0);
-    }
-    let prolog = xml::opening::read_prolog(s);
-    match prolog {
-        Prolog::Behind(at) => check_from(s, at),
-        Prolog::Fault(place) => Check::Refused(15, place),
+    let mut step = first_step(s);
+    let mut infos = 0;
+    loop {
+        match step {
+            Step::Next(m, event) => {
+                infos = m.infos;
+                step = constructs::take_step(s, m);
+            }
+            Step::Done => {
+                return Check::Accepted(infos);
+            }
+            Step::Refused(number, offset) => {
+                return Check::Refused(number, offset);
+            }
+        }
     }
 }

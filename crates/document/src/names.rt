@@ -3,11 +3,11 @@ use crate::Mode;
 ghost use mathlib.Core.Path.{_≡_};
 ghost use Rattle.text.specs.Parts.{part};
 ghost use Rattle.xml.specs.Bytes.{leading};
-ghost use Rattle.document.specs.Tags.{behindPrefix, nameIn, isBeforeColon, localName};
+ghost use Rattle.document.specs.Tags.{afterPrefix, nameIn, isBeforeColon, localName};
 
-// The name of the tag from one place to another, behind the prefix from p to u; empty where it doesn't carry that.
+// The name of the tag from one place to another, after the prefix from p to u; empty where it doesn't carry that.
 pub fn name_under(s: &[u8], p: usize, u: usize, from: usize, until: usize) -> &[u8]
-    ensures { λ r. ⌜ now r ≡ behindPrefix (part (now (s .entry)) p u) (part (now (s .entry)) from until) ⌝ }
+    ensures { λ r. ⌜ now r ≡ afterPrefix (part (now (s .entry)) p u) (part (now (s .entry)) from until) ⌝ }
 {
     let name = text::part(s, from, until);
     let prefix = text::part(s, p, u);
@@ -25,7 +25,7 @@ pub fn name_under(s: &[u8], p: usize, u: usize, from: usize, until: usize) -> &[
 pub fn name_in(s: &[u8], m: Mode, from: usize, until: usize) -> &[u8]
     ensures { λ r. ⌜ now r ≡ nameIn (now (s .entry)) m from until ⌝ }
 {
-    name_under(s, m.prefix, m.until, from, until)
+    name_under(s, m.prefix_start, m.prefix_end, from, until)
 }
 
 // How many bytes of a tag's name stand before its first ":".
@@ -42,7 +42,7 @@ fn before_colon(name: &[u8]) -> usize
     i
 }
 
-// A tag's name behind its first ":", or all of it.
+// A tag's name after its first ":", or all of it.
 pub fn local_name(name: &[u8]) -> &[u8]
     ensures { λ r. ⌜ now r ≡ localName (now (name .entry)) ⌝ }
 {

@@ -4,6 +4,7 @@ use crate::Mode;
 use crate::Step;
 use crate::elements::empty_step;
 use crate::elements::open_step;
+use crate::modes;
 use crate::modes::moved;
 use crate::modes::open_class;
 use crate::names::local_name;
@@ -14,11 +15,8 @@ use xml::Found;
 use xml::NameSpace;
 use xml::Tail;
 ghost use mathlib.Core.Path.{_≡_};
-ghost use mathlib.Core.Bool.{true, false};
-ghost use Prim.Native.Nat.{_<_, _+_};
-ghost use lib.ListN.{length, drop};
-ghost use Rattle.text.specs.Ascii.{ascii};
-ghost use Rattle.text.specs.Parts.{startsWith};
+ghost use Prim.Native.Nat.{_<_};
+ghost use lib.ListN.{length};
 ghost use Rattle.xml.specs.Tags.{tail};
 ghost use Rattle.xml.specs.Attributes.{nameSpace};
 ghost use Rattle.document.specs.Tags.{otherStep, boundStep, alertStep, isAlert, startStep, closeStep, isRightEnd, endStep, tagStep};
@@ -48,11 +46,11 @@ fn bound_step(s: &[u8], m: Mode, n: usize, p: usize, u: usize, next: usize) -> S
         return Step::Next(
             Mode {
                 at: next,
-                row: schema::order::next(1, class::ALERT),
+                state: schema::order::next(modes::BEFORE, class::ALERT),
                 leaf: 0,
-                infos: 0,
-                prefix: p,
-                until: u,
+                infos: m.infos,
+                prefix_start: p,
+                prefix_end: u,
             },
             Event::Opened(class::ALERT, m.at),
         );
@@ -78,7 +76,7 @@ fn is_alert(s: &[u8], m: Mode, n: usize) -> bool
     requires { ⌜ m .at < length (now s) ⌝ }
     ensures { λ r. ⌜ r ≡ isAlert (now (s .entry)) m n ⌝ }
 {
-    if m.row != 1 {
+    if m.state != modes::BEFORE {
         return false;
     }
     schema::names::is_named(local_name(text::part(s, m.at + 1, n)), class::ALERT)
@@ -89,7 +87,7 @@ fn start_step(s: &[u8], m: Mode, n: usize) -> Step
     requires { ⌜ m .at < length (now s) ⌝ }
     ensures { λ r. ⌜ r ≡ startStep (now (s .entry)) m n ⌝ }
 {
-    if (n == m.at + 1) | (m.row == 2) {
+    if (n == m.at + 1) | (m.state == modes::OVER) {
         return Step::Refused(15, m.at);
     }
     if is_alert(s, m, n) {
@@ -105,21 +103,21 @@ fn close_step(m: Mode, next: usize) -> Step
     ensures { λ r. ⌜ r ≡ closeStep m next ⌝ }
 {
     if m.leaf != 0 {
-        return Step::Next(moved(m, next, m.row, 0), Event::Silent);
+        return Step::Next(moved(m, next, m.state, 0), Event::Silent);
     }
-    let row = schema::order::next(m.row, 0);
-    if row == 0 {
+    let state = schema::order::next(m.state, 0);
+    if state == 0 {
         return Step::Refused(16, m.at);
     }
     Step::Next(
-        moved(m, next, row, 0),
-        Event::Closed(schema::order::container_of(m.row)),
+        moved(m, next, state, 0),
+        Event::Closed(schema::order::container_of(m.state)),
     )
 }
 
 // Whether the end tag whose name ends at n is the one that is due.
 fn is_right_end(s: &[u8], m: Mode, n: usize) -> bool
-    requires { ⌜ m .at + 1 < length (now s) ⌝ }
+    requires { ⌜ m .at < length (now s) ⌝ }
     ensures { λ r. ⌜ r ≡ isRightEnd (now (s .entry)) m n ⌝ }
 {
     let class = open_class(m);
@@ -128,7 +126,7 @@ fn is_right_end(s: &[u8], m: Mode, n: usize) -> bool
 
 // An end tag whose name ends at n.
 fn end_step(s: &[u8], m: Mode, n: usize) -> Step
-    requires { ⌜ m .at + 1 < length (now s) ⌝ }
+    requires { ⌜ m .at < length (now s) ⌝ }
     ensures { λ r. ⌜ r ≡ endStep (now (s .entry)) m n (tail (now (s .entry)) n) ⌝ }
 {
     let tail = xml::tags::read_tail(s, n);
@@ -146,39 +144,21 @@ fn end_step(s: &[u8], m: Mode, n: usize) -> Step
 
 // ---- any tag
 
-// The end tag at the mode's place. A name holds no quote, so the tag's end is looked for behind it.
-fn end_tag_step(s: &[u8], m: Mode) -> Step
-    requires { ⌜ (m .at + 1 < length (now s)) × (startsWith (ascii "</") (drop (m .at) (now s)) ≡ true) ⌝ }
-    ensures { λ r. ⌜ r ≡ tagStep (now (s .entry)) m ⌝ }
-{
-    let n = xml::tags::name_end(s, m.at + 2);
-    let end = xml::tags::tag_end(s, n);
-    match end {
-        Found::At(e) => end_step(s, m, n),
-        Found::Nothing => Step::Refused(15, s.len()),
-    }
-}
-
-// The start tag at the mode's place.
-fn start_tag_step(s: &[u8], m: Mode) -> Step
-    requires { ⌜ (m .at < length (now s)) × (startsWith (ascii "</") (drop (m .at) (now s)) ≡ false) ⌝ }
-    ensures { λ r. ⌜ r ≡ tagStep (now (s .entry)) m ⌝ }
-{
-    let n = xml::tags::name_end(s, m.at + 1);
-    let end = xml::tags::tag_end(s, n);
-    match end {
-        Found::At(e) => start_step(s, m, n),
-        Found::Nothing => Step::Refused(15, s.len()),
-    }
-}
-
-// The tag at the mode's place.
+// The tag at the mode's place. A name holds no quote, so the tag's end is looked for after it.
 pub fn tag_step(s: &[u8], m: Mode) -> Step
     requires { ⌜ m .at < length (now s) ⌝ }
     ensures { λ r. ⌜ r ≡ tagStep (now (s .entry)) m ⌝ }
 {
-    if text::starts_at(s, m.at, b"</") {
-        return end_tag_step(s, m);
+    let is_end = text::starts_at(s, m.at, b"</");
+    let n = xml::tags::name_end(s, m.at + 1 + is_end as usize);
+    let end = xml::tags::tag_end(s, n);
+    match end {
+        Found::At(e) => {
+            if is_end {
+                return end_step(s, m, n);
+            }
+            start_step(s, m, n)
+        }
+        Found::Nothing => Step::Refused(15, s.len()),
     }
-    start_tag_step(s, m)
 }

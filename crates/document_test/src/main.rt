@@ -19,11 +19,11 @@ fn print_check(check: Check) {
             print(b"accepted ");
             print_number(parts as u64);
         }
-        Check::Refused(number, place) => {
+        Check::Refused(number, offset) => {
             print(b"refused ");
             print_number(number as u64);
             print(b" at ");
-            print_number(place as u64);
+            print_number(offset as u64);
         }
     }
     print(b"\n");

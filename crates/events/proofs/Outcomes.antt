@@ -14,24 +14,20 @@ use Rattle.packet.specs.declared.Packet.the-variants as packet
 use Rattle.packet.specs.Packet.{packetOf}
 use Rattle.events.specs.declared.Entry.{Entry}
 use Rattle.events.specs.declared.Receipt.{Receipt}
-use Rattle.events.specs.declared.Receipt.the-variants.{Accepted, Late, UnknownKey, Unverified, NotAbove, Full, Refused}
+use Rattle.events.specs.declared.Receipt.the-variants.{Accepted, ClockOutOfRange, UnknownKey, Unverified, NotAbove, Full, Refused}
 use Rattle.events.specs.declared.checks.Checked.{Checked}
-use Rattle.events.specs.declared.plans.Places.{Places}
+use Rattle.events.specs.declared.plans.Candidates.{Candidates}
 use Rattle.events.specs.declared.plans.Plan.{Plan}
-use Rattle.events.specs.Table.{blank, placeOf, freePlace, positionOf, renewed, fresh, Outcome, outcome, again, anew, judged, isLate, isListed, heard, received}
-use Rattle.events.specs.Steps.{stopped, passing, checkedFields, checked, scanned, positionIn, merged, storing, refusing, planned, decided, carriedOut, accepting}
+use Rattle.events.specs.Table.{blank, indexOf, freeIndex, positionOf, renewed, fresh, outcome, again, anew, tableOutcome, isClockOutOfRange, isListed, answered, received}
+use Rattle.events.specs.Steps.{stopped, passing, checkedFields, checked, scanned, positionIn, storing, refusing, planned, decided, carriedOut, accepting}
 
 -- ---- where an event stands
 
-pub position-is : (key event : ℕ) (es : List Entry) (s : Places) → s ≡ scanned key event es → (n : ℕ) → length es ≡ n → positionIn (s .known) n ≡ positionOf key event es
+pub position-is : (key event : ℕ) (es : List Entry) (s : Candidates) → s ≡ scanned key event es → (n : ℕ) → length es ≡ n → positionIn (s .known) n ≡ positionOf key event es
 unfolding positionOf
 position-is key event es s e n long = rw (long, e)
 
 -- ---- the plan
-
--- the entry that a packet makes for a new event says all that a known event's entry takes from the packet
-pub merged-is : (clock : ℕ) (f : Fields) (e : Entry) → merged e (fresh clock f) ≡ renewed clock f e
-merged-is clock f e = refl
 
 carried-cases : (es : List Entry) (k j : ℕ) (x y : Entry) (t u w : Bool)
     → carriedOut (cond t (cond u (storing k x) (refusing (length es) NotAbove)) (cond w (storing j y) (refusing (length es) Full))) es
@@ -42,19 +38,19 @@ carried-cases es k j x y true false w = ap (outcome NotAbove) (set-out es (lengt
 carried-cases es k j x y false u true = refl
 carried-cases es k j x y false u false = ap (outcome Full) (set-out es (length es) blank (le-refl (length es)))
 
-pub accepting-is : (clock : ℕ) (f : Fields) (es : List Entry) → accepting (passing (fresh clock f)) es ≡ judged clock f es
-unfolding accepting planned judged again anew
+accepting-is : (clock : ℕ) (f : Fields) (es : List Entry) → accepting (passing (fresh clock f)) es ≡ tableOutcome clock f es
+unfolding accepting planned tableOutcome again anew
 accepting-is clock f es =
-    carried-cases es (placeOf (f .key) (f .event) es) (freePlace es)
-    (renewed clock f (getD es (placeOf (f .key) (f .event) es) blank)) (fresh clock f)
-    (ltb (placeOf (f .key) (f .event) es) (length es)) (ltb (getD es (placeOf (f .key) (f .event) es) blank .sequence) (f .sequence)) (ltb (freePlace es) (length es))
+    carried-cases es (indexOf (f .key) (f .event) es) (freeIndex es)
+    (renewed clock f (getD es (indexOf (f .key) (f .event) es) blank)) (fresh clock f)
+    (ltb (indexOf (f .key) (f .event) es) (length es)) (ltb (getD es (indexOf (f .key) (f .event) es) blank .sequence) (f .sequence)) (ltb (freeIndex es) (length es))
 
 -- a packet that is refused leaves the entries
-pub stopped-is : (r : Receipt) (es : List Entry) → accepting (stopped r) es ≡ outcome r es
+stopped-is : (r : Receipt) (es : List Entry) → accepting (stopped r) es ≡ outcome r es
 unfolding accepting carriedOut
 stopped-is r es = ap (outcome r) (set-out es (length es) blank (le-refl (length es)))
 
-module _ (es : List Entry) (c : Checked) (s : Places) (e : s ≡ scanned (c .entry .key) (c .entry .event) es) (n : ℕ) (long : length es ≡ n) (p : Plan) (q : p ≡ decided s n c) where
+module _ (es : List Entry) (c : Checked) (s : Candidates) (e : s ≡ scanned (c .entry .key) (c .entry .event) es) (n : ℕ) (long : length es ≡ n) (p : Plan) (q : p ≡ decided s n c) where
   pub stored-is : outcome (p .receipt) (set es (p .at) (p .entry)) ≡ accepting c es
   unfolding accepting carriedOut
   stored-is = rw (q, e, long)
@@ -73,31 +69,25 @@ module _ (keys : List ℕ) (verdict : Bool) (clock : ℕ) where
   checked-is q r a f b x c = rw (← a, b) c
 
   module _ (es : List Entry) where
-    heard-cases : (f : Fields) (t u w : Bool)
-        → cond t (outcome Late es) (cond (not u) (outcome UnknownKey es) (cond (not w) (outcome Unverified es) (judged clock f es)))
-        ≡ accepting (cond t (stopped Late) (cond (not u) (stopped UnknownKey) (cond (not w) (stopped Unverified) (passing (fresh clock f))))) es
-    heard-cases f true u w = sym (stopped-is Late es)
-    heard-cases f false false w = sym (stopped-is UnknownKey es)
-    heard-cases f false true false = sym (stopped-is Unverified es)
-    heard-cases f false true true = sym (accepting-is clock f es)
+    answered-cases : (f : Fields) (t u w : Bool)
+        → cond t (outcome ClockOutOfRange es) (cond (not u) (outcome UnknownKey es) (cond (not w) (outcome Unverified es) (tableOutcome clock f es)))
+        ≡ accepting (cond t (stopped ClockOutOfRange) (cond (not u) (stopped UnknownKey) (cond (not w) (stopped Unverified) (passing (fresh clock f))))) es
+    answered-cases f true u w = sym (stopped-is ClockOutOfRange es)
+    answered-cases f false false w = sym (stopped-is UnknownKey es)
+    answered-cases f false true false = sym (stopped-is Unverified es)
+    answered-cases f false true true = sym (accepting-is clock f es)
 
-    heard-is : (q : Packet) → heard keys verdict clock es q ≡ accepting (checked keys verdict clock q) es
+    answered-is : (q : Packet) → answered keys verdict clock es q ≡ accepting (checked keys verdict clock q) es
     unfolding checkedFields
-    heard-is (packet.Refused e) = sym (stopped-is (Refused e) es)
-    heard-is (packet.Alert f) = heard-cases f (isLate clock) (isListed keys (f .key)) verdict
+    answered-is (packet.Refused e) = sym (stopped-is (Refused e) es)
+    answered-is (packet.Alert f) = answered-cases f (isClockOutOfRange clock) (isListed keys (f .key)) verdict
 
     -- the checks, then the table's own
     pub received-is : (p : List ℕ) → received es p keys verdict clock ≡ accepting (checked keys verdict clock (packetOf p)) es
     unfolding received
-    received-is p = heard-is (packetOf p)
+    received-is p = answered-is (packetOf p)
 
+-- the table keeps its number of entries
 pub accepting-length : (c : Checked) (es : List Entry) → length (accepting c es .entries) ≡ length es
 unfolding accepting carriedOut
 accepting-length c es = length-set es _ _
-
--- ---- what holds of every outcome
-
--- the table keeps its number of entries
-pub received-length : (es : List Entry) (p keys : List ℕ) (verdict : Bool) (clock : ℕ) → length (received es p keys verdict clock .entries) ≡ length es
-received-length es p keys verdict clock =
-    ap (λ (o : Outcome). length (o .entries)) (received-is keys verdict clock es p) ∙ accepting-length (checked keys verdict clock (packetOf p)) es

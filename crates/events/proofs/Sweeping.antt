@@ -1,7 +1,7 @@
 -- Laws of a sweep, over entries of any number.
 use mathlib.Core.Path.{_≡_, refl, sym, _∙_, ap}
 use mathlib.Core.List.{List, [], _∷_, _++_, append-nil}
-use Prim.Native.Nat.{ℕ, zero, suc, _+_, _≤_, _<_}
+use Prim.Native.Nat.{ℕ, suc, _+_, _≤_, _<_}
 use native.Mathlib.Numerals.{add-one}
 use native.Mathlib.Omega.{arith}
 use lib.ListN.{length, getD, take, drop, set, drop-of-length-le, length-append, take-append-drop}
@@ -10,17 +10,10 @@ use Rattle.events.specs.declared.Entry.{Entry}
 use Rattle.events.specs.Table.{blank, swept, sweptAll}
 
 module _ (time : ℕ) where
-  pub swept-length : (es : List Entry) → length (sweptAll time es) ≡ length es
+  swept-length : (es : List Entry) → length (sweptAll time es) ≡ length es
   unfolding sweptAll
   swept-length [] = refl
   swept-length (e ∷ es) = ap suc (swept-length es)
-
-  -- each entry is swept in its place
-  pub swept-at : (es : List Entry) (k : ℕ) → getD (sweptAll time es) k blank ≡ swept time (getD es k blank)
-  unfolding sweptAll
-  swept-at [] k = refl
-  swept-at (e ∷ es) zero = refl
-  swept-at (e ∷ es) (suc k) = swept-at es k
 
   swept-append : (es fs : List Entry) → sweptAll time (es ++ fs) ≡ sweptAll time es ++ sweptAll time fs
   unfolding sweptAll
@@ -45,18 +38,18 @@ module _ (time : ℕ) (es : List Entry) where
       ∙ sym (length-append (take i es) (drop i es)) ∙ ap length (take-append-drop i es)
 
   module _ (i : ℕ) (h : i < length es) where
-    at-place : length (sweptAll time (take i es)) ≡ i
-    at-place = swept-length time (take i es) ∙ length-take-le i es (omega arith)
+    at-index : length (sweptAll time (take i es)) ≡ i
+    at-index = swept-length time (take i es) ∙ length-take-le i es (omega arith)
 
     -- the next entry is as it was
     next-at : getD (sweptTo time es i) i blank ≡ getD es i blank
-    next-at = rw (drop-cons es i blank h) (getD-at (sweptAll time (take i es)) (getD es i blank) (drop (suc i) es) blank i at-place)
+    next-at = rw (drop-cons es i blank h) (getD-at (sweptAll time (take i es)) (getD es i blank) (drop (suc i) es) blank i at-index)
 
     next-set : set (sweptTo time es i) i (swept time (getD es i blank)) ≡ sweptTo time es (i + 1)
     unfolding sweptAll
     next-set =
         rw (add-one, drop-cons es i blank h, take-suc es i blank h, swept-append time)
-        (set-at (sweptAll time (take i es)) (getD es i blank) (drop (suc i) es) (swept time (getD es i blank)) i at-place
+        (set-at (sweptAll time (take i es)) (getD es i blank) (drop (suc i) es) (swept time (getD es i blank)) i at-index
         ∙ sym (append-snoc (sweptAll time (take i es)) (swept time (getD es i blank)) (drop (suc i) es)))
 
     -- one entry more

@@ -10,12 +10,12 @@ use Rattle.packet.specs.declared.Packet.the-variants as packet
 use Rattle.packet.specs.Packet.{packetOf}
 use Rattle.events.specs.declared.Entry.{Entry}
 use Rattle.events.specs.declared.Receipt.the-variants.{Accepted, NotAbove, Full}
-use Rattle.events.specs.Table.{blank, isOf, isFree, renewed, fresh, isLate, isListed, received}
+use Rattle.events.specs.Table.{blank, isOf, isFree, renewed, fresh, isClockOutOfRange, isListed, received}
 
 -- a packet that passes every check before the table's own
 pub record Passes (p : List ℕ) (keys : List ℕ) (verdict : Bool) (clock : ℕ) (f : Fields) : Type 0 where
   pub alert : packetOf p ≡ packet.Alert f
-  pub timely : isLate clock ≡ false
+  pub timely : isClockOutOfRange clock ≡ false
   pub listed : isListed keys (f .key) ≡ true
   pub verified : verdict ≡ true
 

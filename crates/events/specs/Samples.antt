@@ -7,7 +7,7 @@ use lib.IntN.{pos}
 use Rattle.packet.specs.declared.Fields.{Fields}
 use Rattle.events.specs.declared.Entry.{Entry}
 use Rattle.events.specs.declared.Receipt.the-variants.{Accepted, NotAbove}
-use Rattle.events.specs.Table.{firstPlace, again, judged}
+use Rattle.events.specs.Table.{firstIndex, again, tableOutcome}
 
 -- a packet of event 7 under key 21 with a sequence number
 abbrev pub numbered : ℕ → Fields
@@ -41,8 +41,8 @@ stored n = record { used = true; key = 21; event = 7; sequence = n; cancelled = 
 
 -- stored 9: 9 refused, 10 taken; stored 65,535: all refused
 pub sample-stored :
-    (judged 0 (numbered 9) (stored 9 ∷ []) .receipt ≡ NotAbove)
-    × (judged 0 (numbered 10) (stored 9 ∷ []) .receipt ≡ Accepted)
-    × (judged 0 (numbered 65_535) (stored 65_535 ∷ []) .receipt ≡ NotAbove)
-unfolding firstPlace again judged
+    (tableOutcome 0 (numbered 9) (stored 9 ∷ []) .receipt ≡ NotAbove)
+    × (tableOutcome 0 (numbered 10) (stored 9 ∷ []) .receipt ≡ Accepted)
+    × (tableOutcome 0 (numbered 65_535) (stored 65_535 ∷ []) .receipt ≡ NotAbove)
+unfolding firstIndex again tableOutcome
 sample-stored = (refl, refl, refl)

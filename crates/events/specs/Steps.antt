@@ -9,14 +9,14 @@ use Rattle.packet.specs.declared.Packet.{Packet}
 use Rattle.packet.specs.declared.Packet.the-variants as packet
 use Rattle.events.specs.declared.Entry.{Entry}
 use Rattle.events.specs.declared.Receipt.{Receipt}
-use Rattle.events.specs.declared.Receipt.the-variants.{Accepted, Late, UnknownKey, Unverified, NotAbove, Full, Refused}
+use Rattle.events.specs.declared.Receipt.the-variants.{Accepted, ClockOutOfRange, UnknownKey, Unverified, NotAbove, Full, Refused}
 use Rattle.events.specs.declared.Received.{Received}
 use Rattle.events.specs.declared.checks.Checked.{Checked}
 use Rattle.events.specs.declared.Position.{Position}
 use Rattle.events.specs.declared.Position.the-variants.{At, Nowhere}
-use Rattle.events.specs.declared.plans.Places.{Places}
+use Rattle.events.specs.declared.plans.Candidates.{Candidates}
 use Rattle.events.specs.declared.plans.Plan.{Plan}
-use Rattle.events.specs.Table.{isOf, isFree, blank, placeOf, freePlace, fresh, isLate, isListed, Outcome, outcome}
+use Rattle.events.specs.Table.{isOf, isFree, blank, indexOf, freeIndex, fresh, isClockOutOfRange, isListed, Outcome, outcome}
 
 -- ---- the checks before the table: the entry that the packet makes for a new event, or the refusal
 
@@ -28,7 +28,7 @@ passing e = record { passed = true; receipt = Accepted; entry = e }
 
 unfoldable pub checkedFields : List ℕ → Bool → ℕ → Fields → Checked
 checkedFields keys verdict clock f =
-    cond (isLate clock) (stopped Late)
+    cond (isClockOutOfRange clock) (stopped ClockOutOfRange)
     (cond (not (isListed keys (f .key))) (stopped UnknownKey)
     (cond (not verdict) (stopped Unverified)
     (passing (fresh clock f))))
@@ -40,20 +40,20 @@ checked keys verdict clock (packet.Alert f) = checkedFields keys verdict clock f
 -- ---- one pass over the entries
 
 -- the first used entry of an event and its place, and the lowest free place; a place is the number of entries where there is none
-abbrev pub scanned : ℕ → ℕ → List Entry → Places
-scanned key event es = record { known = placeOf key event es; free = freePlace es; entry = getD es (placeOf key event es) blank }
+abbrev pub scanned : ℕ → ℕ → List Entry → Candidates
+scanned key event es = record { known = indexOf key event es; free = freeIndex es; entry = getD es (indexOf key event es) blank }
 
 -- the first place that passes, from the one among i entries and whether the next entry passes; `next` where none does
-abbrev pub nextPlace : ℕ → ℕ → ℕ → Bool → ℕ
-nextPlace place i next hit = cond (ltb place i) place (cond hit i next)
+abbrev pub nextIndex : ℕ → ℕ → ℕ → Bool → ℕ
+nextIndex index i next hit = cond (ltb index i) index (cond hit i next)
 
 abbrev pub nextEntry : ℕ → ℕ → Bool → Entry → Entry → Entry
-nextEntry place i hit old e = cond (ltb place i) old (cond hit e blank)
+nextEntry index i hit old e = cond (ltb index i) old (cond hit e blank)
 
-abbrev pub scanStep : Places → Entry → ℕ → ℕ → ℕ → ℕ → Places
+abbrev pub scanStep : Candidates → Entry → ℕ → ℕ → ℕ → ℕ → Candidates
 scanStep s e i next key event = record {
-  known = nextPlace (s .known) i next (isOf key event e);
-  free = nextPlace (s .free) i next (isFree e);
+  known = nextIndex (s .known) i next (isOf key event e);
+  free = nextIndex (s .free) i next (isFree e);
   entry = nextEntry (s .known) i (isOf key event e) (s .entry) e;
 }
 
@@ -82,13 +82,13 @@ abbrev pub refusing : ℕ → Receipt → Plan
 refusing n r = record { receipt = r; at = n; entry = blank }
 
 -- a packet that passed the checks, among n entries
-unfoldable pub planned : Places → ℕ → Entry → Plan
+unfoldable pub planned : Candidates → ℕ → Entry → Plan
 planned s n new =
     cond (ltb (s .known) n)
     (cond (ltb (s .entry .sequence) (new .sequence)) (storing (s .known) (merged (s .entry) new)) (refusing n NotAbove))
     (cond (ltb (s .free) n) (storing (s .free) new) (refusing n Full))
 
-abbrev pub decided : Places → ℕ → Checked → Plan
+abbrev pub decided : Candidates → ℕ → Checked → Plan
 decided s n c = cond (c .passed) (planned s n (c .entry)) (refusing n (c .receipt))
 
 -- an entry stored past the entries changes nothing

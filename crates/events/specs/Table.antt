@@ -10,7 +10,7 @@ use Rattle.packet.specs.declared.Packet.the-variants as packet
 use Rattle.packet.specs.Packet.{packetOf, faultNumber}
 use Rattle.events.specs.declared.Entry.{Entry}
 use Rattle.events.specs.declared.Receipt.{Receipt}
-use Rattle.events.specs.declared.Receipt.the-variants.{Accepted, Late, UnknownKey, Unverified, NotAbove, Full, Refused}
+use Rattle.events.specs.declared.Receipt.the-variants.{Accepted, ClockOutOfRange, UnknownKey, Unverified, NotAbove, Full, Refused}
 use Rattle.events.specs.declared.Position.{Position}
 use Rattle.events.specs.declared.Position.the-variants.{At, Nowhere}
 
@@ -28,20 +28,20 @@ abbrev pub blank : Entry
 blank = record { used = false; key = 0; event = 0; sequence = 0; cancelled = false; «keep_until» = 0 }
 
 -- the place of the first entry that passes a test, or the number of entries
-unfoldable pub firstPlace : (Entry → Bool) → List Entry → ℕ
-firstPlace f [] = 0
-firstPlace f (e ∷ es) = cond (f e) 0 (suc (firstPlace f es))
+unfoldable pub firstIndex : (Entry → Bool) → List Entry → ℕ
+firstIndex f [] = 0
+firstIndex f (e ∷ es) = cond (f e) 0 (suc (firstIndex f es))
 
--- "an event ... is judged by its first used entry"
-abbrev pub placeOf : ℕ → ℕ → List Entry → ℕ
-placeOf key event es = firstPlace (isOf key event) es
+-- "an event ... is tableOutcome by its first used entry"
+abbrev pub indexOf : ℕ → ℕ → List Entry → ℕ
+indexOf key event es = firstIndex (isOf key event) es
 
 -- "the lowest free entry"
-abbrev pub freePlace : List Entry → ℕ
-freePlace es = firstPlace isFree es
+abbrev pub freeIndex : List Entry → ℕ
+freeIndex es = firstIndex isFree es
 
 unfoldable pub positionOf : ℕ → ℕ → List Entry → Position
-positionOf key event es = cond (ltb (placeOf key event es) (length es)) (At (placeOf key event es)) Nowhere
+positionOf key event es = cond (ltb (indexOf key event es) (length es)) (At (indexOf key event es)) Nowhere
 
 -- ---- acceptance
 
@@ -86,37 +86,38 @@ again clock f es i =
 unfoldable pub anew : ℕ → Fields → List Entry → ℕ → Outcome
 anew clock f es i = cond (ltb i (length es)) (outcome Accepted (set es i (fresh clock f))) (outcome Full es)
 
-unfoldable pub judged : ℕ → Fields → List Entry → Outcome
-judged clock f es =
-    cond (ltb (placeOf (f .key) (f .event) es) (length es))
-    (again clock f es (placeOf (f .key) (f .event) es))
-    (anew clock f es (freePlace es))
+-- 10 and 11, by the table
+unfoldable pub tableOutcome : ℕ → Fields → List Entry → Outcome
+tableOutcome clock f es =
+    cond (ltb (indexOf (f .key) (f .event) es) (length es))
+    (again clock f es (indexOf (f .key) (f .event) es))
+    (anew clock f es (freeIndex es))
 
 -- ---- "on receipt then 12, 8, 9, 10, 11"
 
 -- "clock above 2^64 - 65,536"
-abbrev pub isLate : ℕ → Bool
-isLate clock = ltb 18_446_744_073_709_486_080 clock
+abbrev pub isClockOutOfRange : ℕ → Bool
+isClockOutOfRange clock = ltb 18_446_744_073_709_486_080 clock
 
 unfoldable pub isListed : List ℕ → ℕ → Bool
 isListed [] key = false
 isListed (k ∷ ks) key = cond (eqb k key) true (isListed ks key)
 
-abbrev pub heard : List ℕ → Bool → ℕ → List Entry → Packet → Outcome
-heard keys verdict clock es (packet.Refused e) = outcome (Refused e) es
-heard keys verdict clock es (packet.Alert f) =
-    cond (isLate clock) (outcome Late es)
+abbrev pub answered : List ℕ → Bool → ℕ → List Entry → Packet → Outcome
+answered keys verdict clock es (packet.Refused e) = outcome (Refused e) es
+answered keys verdict clock es (packet.Alert f) =
+    cond (isClockOutOfRange clock) (outcome ClockOutOfRange es)
     (cond (not (isListed keys (f .key))) (outcome UnknownKey es)
     (cond (not verdict) (outcome Unverified es)
-    (judged clock f es)))
+    (tableOutcome clock f es)))
 
 unfoldable pub received : List Entry → List ℕ → List ℕ → Bool → ℕ → Outcome
-received es p keys verdict clock = heard keys verdict clock es (packetOf p)
+received es p keys verdict clock = answered keys verdict clock es (packetOf p)
 
 -- document 01's number for each answer, 0 for acceptance; the place is 0
 abbrev pub receiptNumber : Receipt → ℕ
 receiptNumber Accepted = 0
-receiptNumber Late = 12
+receiptNumber ClockOutOfRange = 12
 receiptNumber UnknownKey = 8
 receiptNumber Unverified = 9
 receiptNumber NotAbove = 10

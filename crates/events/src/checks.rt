@@ -65,7 +65,7 @@ fn check_fields(fields: Fields, keys: &[u32], verdict: bool, clock: u64) -> Chec
     ensures { λ r. ⌜ r ≡ checkedFields (now (keys .entry)) verdict clock fields ⌝ }
 {
     if LAST_CLOCK < clock {
-        return stop(Receipt::Late);
+        return stop(Receipt::ClockOutOfRange);
     }
     let listed = is_listed(keys, fields.key);
     if !listed {

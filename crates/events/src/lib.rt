@@ -9,7 +9,7 @@ pub mod entries;
 pub mod plans;
 
 use checks::Checked;
-use plans::Places;
+use plans::Candidates;
 
 // An entry of the event table, laid out as C lays it out: a caller in C lends such entries.
 #[repr(C)]
@@ -30,7 +30,7 @@ pub struct Table {
 // The answer to a packet that was received.
 pub enum Receipt {
     Accepted,
-    Late,
+    ClockOutOfRange,
     UnknownKey,
     Unverified,
     NotAbove,
@@ -54,8 +54,8 @@ pub enum Position {
 pub fn find(table: Table, key: u32, event: u32) -> Position
     ensures { λ r. ⌜ r ≡ positionOf key event (table .entries) ⌝ }
 {
-    let places = scan(table, key, event);
-    plans::position(places, 64)
+    let found = scan(table, key, event);
+    plans::position(found, 64)
 }
 
 // A packet is received. `verdict` is the signature chip's, `keys` are the key ids that are listened to.
@@ -81,17 +81,17 @@ pub fn sweep(table: Table, time: u64) -> Table
 }
 
 // One pass over the entries: an event's first used entry, and the lowest free one.
-fn scan(table: Table, key: u32, event: u32) -> Places
+fn scan(table: Table, key: u32, event: u32) -> Candidates
     ensures { λ r. ⌜ r ≡ scanned key event (table .entries) ⌝ }
 {
-    let mut places = plans::no_places();
+    let mut found = plans::no_candidates();
     let mut i: usize = 0;
     while i < 64 {
         let entry = table.entries[i];
-        places = plans::scan_step(places, entry, i, i + 1, key, event);
+        found = plans::scan_step(found, entry, i, i + 1, key, event);
         i += 1;
     }
-    places
+    found
 }
 
 // A packet after the checks before the table.
@@ -99,8 +99,8 @@ fn accept(table: Table, checked: Checked) -> Received
     ensures { λ r. ⌜ r ≡ ofOutcome (accepting checked (table .entries)) ⌝ }
 {
     let new = checked.entry;
-    let places = scan(table, new.key, new.event);
-    let plan = plans::decide(places, 64, checked);
+    let found = scan(table, new.key, new.event);
+    let plan = plans::decide(found, 64, checked);
     let receipt = plan.receipt;
     let at = plan.at;
     let entry = plan.entry;
@@ -121,7 +121,7 @@ pub fn receipt_number(receipt: Receipt) -> u8
 {
     match receipt {
         Receipt::Accepted => 0,
-        Receipt::Late => 12,
+        Receipt::ClockOutOfRange => 12,
         Receipt::UnknownKey => 8,
         Receipt::Unverified => 9,
         Receipt::NotAbove => 10,

@@ -6,10 +6,10 @@ use crate::checks::Checked;
 use crate::entries;
 ghost use mathlib.Core.Path.{_≡_};
 ghost use mathlib.Core.List.{[]};
-ghost use Rattle.events.specs.Steps.{scanned, nextPlace, nextEntry, scanStep, positionIn, refusing, planned, decided};
+ghost use Rattle.events.specs.Steps.{scanned, nextIndex, nextEntry, scanStep, positionIn, refusing, planned, decided};
 
 // An event's first used entry and its place, and the lowest free place. A place is the number of entries where there is none.
-pub struct Places {
+pub struct Candidates {
     pub known: usize,
     pub free: usize,
     pub entry: Entry,
@@ -23,10 +23,10 @@ pub struct Plan {
 }
 
 // What is found among no entries.
-pub fn no_places() -> Places
+pub fn no_candidates() -> Candidates
     ensures { λ r. ⌜ r ≡ scanned 0 0 [] ⌝ }
 {
-    Places {
+    Candidates {
         known: 0,
         free: 0,
         entry: entries::blank_entry(),
@@ -34,11 +34,11 @@ pub fn no_places() -> Places
 }
 
 // The first place that passes, from the one among i entries and whether the next entry passes; `next` where none does.
-fn next_place(place: usize, i: usize, next: usize, hit: bool) -> usize
-    ensures { λ r. ⌜ r ≡ nextPlace place i next hit ⌝ }
+fn next_index(index: usize, i: usize, next: usize, hit: bool) -> usize
+    ensures { λ r. ⌜ r ≡ nextIndex index i next hit ⌝ }
 {
-    if place < i {
-        return place;
+    if index < i {
+        return index;
     }
     if hit {
         return i;
@@ -47,10 +47,10 @@ fn next_place(place: usize, i: usize, next: usize, hit: bool) -> usize
 }
 
 // The entry at that place.
-fn next_entry(place: usize, i: usize, hit: bool, old: Entry, entry: Entry) -> Entry
-    ensures { λ r. ⌜ r ≡ nextEntry place i hit old entry ⌝ }
+fn next_entry(index: usize, i: usize, hit: bool, old: Entry, entry: Entry) -> Entry
+    ensures { λ r. ⌜ r ≡ nextEntry index i hit old entry ⌝ }
 {
-    if place < i {
+    if index < i {
         return old;
     }
     if hit {
@@ -61,30 +61,30 @@ fn next_entry(place: usize, i: usize, hit: bool, old: Entry, entry: Entry) -> En
 
 // What is found among one entry more, from what is found among i and that entry; `next` is i + 1.
 pub fn scan_step(
-    places: Places,
+    found: Candidates,
     entry: Entry,
     i: usize,
     next: usize,
     key: u32,
     event: u32,
-) -> Places
-    ensures { λ r. ⌜ r ≡ scanStep places entry i next key event ⌝ }
+) -> Candidates
+    ensures { λ r. ⌜ r ≡ scanStep found entry i next key event ⌝ }
 {
     let hit = entries::is_of(key, event, entry);
     let idle = entries::is_free(entry);
-    let old = places.entry;
-    let known = next_place(places.known, i, next, hit);
-    let free = next_place(places.free, i, next, idle);
-    let entry = next_entry(places.known, i, hit, old, entry);
-    Places { known, free, entry }
+    let old = found.entry;
+    let known = next_index(found.known, i, next, hit);
+    let free = next_index(found.free, i, next, idle);
+    let entry = next_entry(found.known, i, hit, old, entry);
+    Candidates { known, free, entry }
 }
 
 // Where the event stands among n entries.
-pub fn position(places: Places, n: usize) -> Position
-    ensures { λ r. ⌜ r ≡ positionIn (places .known) n ⌝ }
+pub fn position(found: Candidates, n: usize) -> Position
+    ensures { λ r. ⌜ r ≡ positionIn (found .known) n ⌝ }
 {
-    if places.known < n {
-        return Position::At(places.known);
+    if found.known < n {
+        return Position::At(found.known);
     }
     Position::Nowhere
 }
@@ -101,12 +101,12 @@ fn refusal(n: usize, receipt: Receipt) -> Plan
 }
 
 // What a packet that passed the checks comes to among n entries; `new` is the entry that it makes for a new event.
-fn plan_passed(places: Places, n: usize, new: Entry) -> Plan
-    ensures { λ r. ⌜ r ≡ planned places n new ⌝ }
+fn plan_passed(found: Candidates, n: usize, new: Entry) -> Plan
+    ensures { λ r. ⌜ r ≡ planned found n new ⌝ }
 {
-    let old = places.entry;
-    let known = places.known;
-    let free = places.free;
+    let old = found.entry;
+    let known = found.known;
+    let free = found.free;
     if known < n {
         if entries::is_above(old, new) {
             let entry = entries::merge(old, new);
@@ -129,13 +129,13 @@ fn plan_passed(places: Places, n: usize, new: Entry) -> Plan
 }
 
 // What a packet comes to among n entries.
-pub fn decide(places: Places, n: usize, checked: Checked) -> Plan
-    ensures { λ r. ⌜ r ≡ decided places n checked ⌝ }
+pub fn decide(found: Candidates, n: usize, checked: Checked) -> Plan
+    ensures { λ r. ⌜ r ≡ decided found n checked ⌝ }
 {
     let receipt = checked.receipt;
     let new = checked.entry;
     if checked.passed {
-        return plan_passed(places, n, new);
+        return plan_passed(found, n, new);
     }
     refusal(n, receipt)
 }

@@ -1,7 +1,7 @@
 -- A signed local holds bits: `toZ w` reads the integer that they are in two's complement, `ofZ w` makes them. Laws of operations over integers that are read back from their bits, in the form in which the checker asks for them.
 use mathlib.Core.Path.{_≡_, _∙_}
 use mathlib.Core.Bool.{true, false}
-use Prim.Native.Nat.{ℕ, _+_, _≤_, _<_}
+use Prim.Native.Nat.{ℕ, _≤_, _<_}
 use native.Mathlib.Omega.{arith}
 use lib.Dec.{T}
 use lib.IntN.{ℤ, pos, natAbs, _-ℤ_}
@@ -9,8 +9,7 @@ use lib.Signed.{mag, nonNeg}
 use mir.Syntax.{Width, w32, w64}
 use mir.Val.{Fits, SFits, toZ, ofZ}
 use mir.Facts.{toZ-ofZ, sfits-widen}
-use Rattle.integers.specs.Magnitude.{abs-sub, abs-sub-mag, abs-mag, mag-abs, isNegative, not-negative}
-use Rattle.integers.specs.Magnitude.{negated-is as negated-of}
+use Rattle.integers.specs.Magnitude.{abs-sub-mag, mag-abs, isNegative, not-negative, negated-is as negated-of}
 
 -- an integer as it is read back from its bits
 abbrev pub read : Width → ℤ → ℤ
@@ -18,12 +17,6 @@ read w z = toZ w (ofZ w z)
 
 pub fits-abs : (z : ℤ) → natAbs z ≤ 9_223_372_036_854_775_807 → SFits w64 z
 fits-abs z h = record { sfits = mag-abs z 9_223_372_036_854_775_808 (omega arith) }
-
-pub abs-32 : (z : ℤ) → SFits w32 z → natAbs z ≤ 2_147_483_648
-abs-32 z f = abs-mag z 2_147_483_648 (f .sfits)
-
-pub abs-64 : (z : ℤ) → SFits w64 z → natAbs z ≤ 9_223_372_036_854_775_808
-abs-64 z f = abs-mag z 9_223_372_036_854_775_808 (f .sfits)
 
 -- what a callee gave, or a struct's field: its range is a fact on the magnitude
 pub read-given-32 : (z : ℤ) → mag z < 2_147_483_648 → read w32 z ≡ z
@@ -34,15 +27,6 @@ read-given z h = toZ-ofZ {w = w64} (record { sfits = h })
 
 pub read-small : (z : ℤ) → natAbs z ≤ 9_223_372_036_854_775_807 → read w64 z ≡ z
 read-small z h = toZ-ofZ (fits-abs z h)
-
--- ---- operations on 64 bits
-
-module _ (a b : ℤ) (fa : SFits w64 a) (fb : SFits w64 b) where
-  pub sub-fits : natAbs a + natAbs b ≤ 9_223_372_036_854_775_807 → SFits w64 (read w64 a -ℤ read w64 b)
-  sub-fits h = rw (toZ-ofZ fa, toZ-ofZ fb) (fits-abs (a -ℤ b) (omega (arith, abs-sub a b)))
-
-  pub sub-is : natAbs a + natAbs b ≤ 9_223_372_036_854_775_807 → read w64 (read w64 a -ℤ read w64 b) ≡ a -ℤ b
-  sub-is h = toZ-ofZ (sub-fits h) ∙ rw (toZ-ofZ fa, toZ-ofZ fb)
 
 -- ---- 32 bits widened to 64
 

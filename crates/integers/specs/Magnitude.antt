@@ -39,17 +39,6 @@ pub abs-sub-zero : (z : ℤ) → natAbs (z -ℤ pos 0) ≡ natAbs z
 abs-sub-zero (pos n) = omega arith
 abs-sub-zero (negsuc n) = rw (lt-ltb 0 (suc n) (omega arith)) (omega arith)
 
-pub abs-mul : (x y : ℤ) → natAbs (x *ℤ y) ≡ natAbs x * natAbs y
-abs-mul (pos a) (pos b) = refl
-abs-mul (pos a) (negsuc b) = abs-neg (pos (a * suc b))
-abs-mul (negsuc a) (pos b) = abs-neg (pos (suc a * b))
-abs-mul (negsuc a) (negsuc b) = refl
-
--- the bound of a two's complement number is one more on the negative side
-pub abs-mag : (z : ℤ) (n : ℕ) → mag z < n → natAbs z ≤ n
-abs-mag (pos k) n h = omega arith
-abs-mag (negsuc k) n h = omega arith
-
 pub mag-abs : (z : ℤ) (n : ℕ) → natAbs z < n → mag z < n
 mag-abs (pos k) n h = omega arith
 mag-abs (negsuc k) n h = omega arith

@@ -1,14 +1,13 @@
 -- Operations on signed numbers of 64 bits, over numbers that their bits are known to stand for: each fits where its result is small enough, and its bits stand for the result.
 use mathlib.Core.Path.{_≡_, ap, ap₂, _∙_}
-use Prim.Native.Nat.{ℕ, _+_, _*_, _≤_, _<_}
+use Prim.Native.Nat.{ℕ, _+_, _≤_, _<_}
 use native.Mathlib.Omega.{arith}
-use lib.Dec.{T}
-use lib.IntN.{ℤ, pos, negℤ, natAbs, _+ℤ_, _-ℤ_, _*ℤ_, +ℤ-idl}
-use lib.Signed.{mag, nonNeg}
+use lib.IntN.{ℤ, pos, negℤ, natAbs, _+ℤ_, _-ℤ_, +ℤ-idl}
+use lib.Signed.{mag}
 use mir.Syntax.{w64}
-use mir.Val.{Fits, SFits, toZ, ofZ}
+use mir.Val.{SFits, toZ, ofZ}
 use mir.Facts.{toZ-ofZ, toZ-pos}
-use Rattle.integers.specs.Magnitude.{abs-neg, abs-mul}
+use Rattle.integers.specs.Magnitude.{abs-neg}
 use Rattle.integers.specs.Bits.{fits-abs}
 
 -- the largest i64
@@ -37,10 +36,6 @@ reads-fit e f = record { is = rw e (toZ-ofZ f) }
 
 -- the code's operations: each fits, and its bits stand for the result
 module _ {x : ℕ} {a : ℤ} (p : Reads x a) where
-  -- a cast to u64
-  pub cast-fits : T (nonNeg a) → natAbs a ≤ most → T (nonNeg (toZ w64 x)) × Fits w64 (natAbs (toZ w64 x))
-  cast-fits s h = rw (p .is) (s, record { fits = omega arith })
-
   neg-is : pos 0 -ℤ toZ w64 x ≡ negℤ a
   neg-is = +ℤ-idl (negℤ (toZ w64 x)) ∙ ap negℤ (p .is)
 
@@ -51,20 +46,8 @@ module _ {x : ℕ} {a : ℤ} (p : Reads x a) where
   neg-reads h = reads-fit neg-is (fits-abs (negℤ a) (omega (arith, abs-neg a)))
 
 module _ {x y : ℕ} {a b : ℤ} (p : Reads x a) (q : Reads y b) where
-  pub add-fits : natAbs (a +ℤ b) ≤ most → SFits w64 (toZ w64 x +ℤ toZ w64 y)
-  add-fits h = rw (p .is, q .is) (fits-abs (a +ℤ b) h)
-
-  pub add-reads : natAbs (a +ℤ b) ≤ most → Reads (ofZ w64 (toZ w64 x +ℤ toZ w64 y)) (a +ℤ b)
-  add-reads h = reads-fit (ap₂ _+ℤ_ (p .is) (q .is)) (fits-abs (a +ℤ b) h)
-
   pub sub-fits : natAbs (a -ℤ b) ≤ most → SFits w64 (toZ w64 x -ℤ toZ w64 y)
   sub-fits h = rw (p .is, q .is) (fits-abs (a -ℤ b) h)
 
   pub sub-reads : natAbs (a -ℤ b) ≤ most → Reads (ofZ w64 (toZ w64 x -ℤ toZ w64 y)) (a -ℤ b)
   sub-reads h = reads-fit (ap₂ _-ℤ_ (p .is) (q .is)) (fits-abs (a -ℤ b) h)
-
-  pub mul-fits : natAbs a * natAbs b ≤ most → SFits w64 (toZ w64 x *ℤ toZ w64 y)
-  mul-fits h = rw (p .is, q .is) (fits-abs (a *ℤ b) (rw (abs-mul a b) h))
-
-  pub mul-reads : natAbs a * natAbs b ≤ most → Reads (ofZ w64 (toZ w64 x *ℤ toZ w64 y)) (a *ℤ b)
-  mul-reads h = reads-fit (ap₂ _*ℤ_ (p .is) (q .is)) (fits-abs (a *ℤ b) (rw (abs-mul a b) h))

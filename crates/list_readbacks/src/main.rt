@@ -4,24 +4,27 @@ use libc::STDIN_FILENO;
 use libc::STDOUT_FILENO;
 use sheet::Found;
 use sheet::ReadBack;
-use sheet::Wrote;
+use sheet::WriteSheet;
 ghost use Prim.Native.Nat.{_≤_};
 ghost use lib.ListN.{length};
+
+// Room for any sentence.
+const SENTENCE_ROOM: usize = 1024;
 
 fn print(text: &[u8]) {
     io::write_all(STDOUT_FILENO, text);
 }
 
-fn print_refusal(number: u64, place: u64) {
+fn print_refusal(number: u64, offset: u64) {
     print(b"refused ");
     io::print_decimal(STDOUT_FILENO, number);
     print(b" at ");
-    io::print_decimal(STDOUT_FILENO, place);
+    io::print_decimal(STDOUT_FILENO, offset);
     print(b"\n");
 }
 
-fn print_written(sentence: &[u8], wrote: Wrote) {
-    let Wrote::End(end) = wrote else {
+fn print_written(sentence: &[u8], answer: WriteSheet) {
+    let WriteSheet::End(end) = answer else {
         return;
     };
     if end <= sentence.len() {
@@ -35,22 +38,22 @@ fn part(text: &[u8], start: usize, len: usize) -> &[u8] {
 
 // Writes the sentence of a sheet that was found in a text.
 fn print_found(text: &[u8], found: Found) {
-    let mut sentence = [0u8; 1024];
+    let mut sentence = [0u8; SENTENCE_ROOM];
     match found {
         Found::Cap(facts, sender, name) => {
             let from = part(text, sender.start, sender.len);
-            let wrote = readback::write_cap(
+            let answer = readback::write_cap(
                 &mut sentence,
                 0,
                 facts,
                 from,
                 part(text, name.start, name.len),
             );
-            print_written(&sentence, wrote);
+            print_written(&sentence, answer);
         }
         Found::Warn(facts) => {
-            let wrote = readback::write_warn(&mut sentence, 0, facts);
-            print_written(&sentence, wrote);
+            let answer = readback::write_warn(&mut sentence, 0, facts);
+            print_written(&sentence, answer);
         }
     }
 }
@@ -61,12 +64,12 @@ fn print_line(line: &[u8]) {
     match answer {
         ReadBack::Sheet(total, found) => print_found(line, found),
         ReadBack::Count(total) => {}
-        ReadBack::NotReadBack(place) => print_refusal(23, place as u64),
+        ReadBack::NotReadBack(offset) => print_refusal(23, offset as u64),
         ReadBack::NotThere => print_refusal(21, 0),
     }
 }
 
-// The place behind the next newline, or the text's end.
+// The place after the next newline, or the text's end.
 fn line_end(text: &[u8], at: usize) -> usize
     requires { ⌜ at ≤ length (now text) ⌝ }
     ensures { λ r. ⌜ (at ≤ r) × (r ≤ length (now (text .entry))) ⌝ }
@@ -102,7 +105,7 @@ fn main() {
     match answer {
         ReadBack::Count(total) => list(&buffer[..n], total),
         ReadBack::Sheet(total, found) => {}
-        ReadBack::NotReadBack(place) => print_refusal(23, place as u64),
+        ReadBack::NotReadBack(offset) => print_refusal(23, offset as u64),
         ReadBack::NotThere => print_refusal(21, 0),
     }
 }

@@ -4,11 +4,13 @@ use mathlib.Core.Bool.{Bool, true, false, cond, not}
 use mathlib.Core.List.{List}
 use Prim.Native.Nat.{ℕ, _≤_}
 use native.Mathlib.Omega.{arith}
-use borrow.Author.Tests.{ltb-false, leb-true, not-false, eqb-true}
+use borrow.Author.Tests.{ltb-false, le-ltb, leb-true, not-false, eqb-true, eq-eqb}
 use lib.Dec.{eqb, ltb, leb}
 use lib.ListN.{length, take}
+use mir.Syntax.{w32}
+use mir.Val.{Fits}
 use Rattle.text.specs.Ascii.{ascii}
-use Rattle.text.specs.Logic.{eql, and-right}
+use Rattle.text.specs.Logic.{eql, and-right, clash}
 use Rattle.words.specs.Duration.{isLasting}
 use Rattle.coordinates.specs.Place.{inRange}
 use Rattle.packet.specs.declared.Fields.{Fields}
@@ -17,7 +19,6 @@ use Rattle.packet.specs.declared.Packet.{Packet}
 use Rattle.packet.specs.declared.Packet.the-variants.{Alert, Refused}
 use Rattle.packet.specs.BigEndian.{numberOf}
 use Rattle.packet.specs.Packet.{flag, fieldsOf, epicentre, lastingOf, packetOf}
-use Rattle.packet.proofs.Rules.{is-accepted, by-fields}
 
 pub record Accepted (p : List ℕ) (f : Fields) : Type 0 where
   pub warn : eql (take 4 p) (ascii "WARN") ≡ true
@@ -31,7 +32,7 @@ pub record Accepted (p : List ℕ) (f : Fields) : Type 0 where
 
 -- a test that an accepted packet has passed
 past : (e : Fault) (y : Packet) (f : Fields) (t : Bool) → cond t (Refused e) y ≡ Alert f → (t ≡ false) × (y ≡ Alert f)
-past e y f true q = let z : _≡_ {A = ℕ} 0 1 = cc in absurd (omega arith)
+past e y f true q = clash (cc)
 past e y f false q = (refl, q)
 
 same : (f g : Fields) → Alert f ≡ Alert g → g ≡ f
@@ -62,10 +63,26 @@ accepted p f e₀ =
 
 -- and a packet of which all this holds is accepted
 pub accepts : (p : List ℕ) (f : Fields) → Accepted p f → packetOf p ≡ Alert f
+unfolding packetOf
 accepts p f a =
-    sym (by-fields p (omega (arith, a .low)) (a .warn) (a .version) (a .alert) (a .low) (a .high) (Alert f) f (a .fields)
-    (is-accepted f (epicentre f) refl true (sym (a .centred)) refl (lastingOf f) refl true (sym (a .lasts)) refl))
+    rw (
+      le-ltb (length p) 8 (omega (arith, a .low)),
+      a .warn,
+      eq-eqb (numberOf 1 0x04 p) 1 (a .version),
+      a .alert,
+      le-ltb (length p) 132 (a .low),
+      le-ltb 1_200 (length p) (a .high),
+      ← a .fields,
+      a .centred,
+      a .lasts,
+    )
 
--- a lasting time is small
-pub lasting-le : (s : ℕ) → isLasting s ≡ true → s ≤ 31_536_000
-lasting-le s e = leb-true s 31_536_000 (and-right (leb 1 s) (leb s 31_536_000) e)
+-- ---- the lasting time
+
+-- of the packet o that was read
+pub lasts-read : (p : List ℕ) (o : Packet) → o ≡ packetOf p → (f : Fields) → o ≡ Alert f → isLasting (lastingOf f) ≡ true
+lasts-read p o e f g = accepted p f (sym e ∙ g) .lasts
+
+-- it fits 32 bits
+pub lasting-fits : (s r : ℕ) → isLasting s ≡ true → r ≡ s → Fits w32 r
+lasting-fits s r h e = record { fits = omega (arith, leb-true s 31_536_000 (and-right (leb 1 s) (leb s 31_536_000) h)) }

@@ -3,7 +3,7 @@ use mathlib.Core.List.{List, [], _∷_}
 use Prim.Native.Nat.{ℕ, _+_, _*_}
 use lib.ListN.{take, drop}
 
--- the number that bytes write, behind bytes that wrote n
+-- the number that bytes write, after bytes that wrote n
 unfoldable pub bigEndianFrom : ℕ → List ℕ → ℕ
 bigEndianFrom n [] = n
 bigEndianFrom n (b ∷ l) = bigEndianFrom (0x100 * n + b) l

@@ -79,17 +79,27 @@ lastingOf f = f .expiry - f .timestamp
 
 -- ---- "WARN order: 1 (8 bytes), 2, 3, 4, 1 (132), 5, 6, 7"
 
+-- from 6 on, by the fields
+abbrev pub acceptedOf : Fields → Packet
+acceptedOf f =
+    cond (not (inRange (epicentre f))) (packet.Refused fault.Range)
+    (cond (not (isLasting (lastingOf f))) (packet.Refused fault.Lasting)
+    (packet.Alert f))
+
+-- from the second 1 on, by the length of an ALERT
+abbrev pub alertOf : List ℕ → Packet
+alertOf p =
+    cond (ltb (length p) 132) (packet.Refused fault.Short)
+    (cond (ltb 1_200 (length p)) (packet.Refused fault.Long)
+    (acceptedOf (fieldsOf p)))
+
 unfoldable pub packetOf : List ℕ → Packet
 packetOf p =
     cond (ltb (length p) 8) (packet.Refused fault.Short)
     (cond (not (eql (take 4 p) (ascii "WARN"))) (packet.Refused fault.NotWarn)
     (cond (not (eqb (numberOf 1 0x04 p) 1)) (packet.Refused fault.Version)
     (cond (not (flag 0 p)) (packet.Refused fault.NotAlert)
-    (cond (ltb (length p) 132) (packet.Refused fault.Short)
-    (cond (ltb 1_200 (length p)) (packet.Refused fault.Long)
-    (cond (not (inRange (epicentre (fieldsOf p)))) (packet.Refused fault.Range)
-    (cond (not (isLasting (lastingOf (fieldsOf p)))) (packet.Refused fault.Lasting)
-    (packet.Alert (fieldsOf p)))))))))
+    (alertOf p))))
 
 -- document 01's number for each fault; the place is 0
 abbrev pub faultNumber : Fault → ℕ

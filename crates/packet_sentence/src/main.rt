@@ -4,15 +4,18 @@ use libc::STDOUT_FILENO;
 use packet::Fault;
 use packet::PacketSheet;
 use sheet::WarnFacts;
-use sheet::Wrote;
+use sheet::WriteSheet;
+
+// Room for any sentence.
+const SENTENCE_ROOM: usize = 1024;
 
 fn print_sentence(facts: WarnFacts) {
-    let mut sentence = [0u8; 1024];
-    let wrote = readback::write_warn(&mut sentence, 0, facts);
-    let Wrote::End(end) = wrote else {
+    let mut sentence = [0u8; SENTENCE_ROOM];
+    let answer = readback::write_warn(&mut sentence, 0, facts);
+    let WriteSheet::End(end) = answer else {
         return;
     };
-    if end <= 1024 {
+    if end <= SENTENCE_ROOM {
         io::write_all(STDOUT_FILENO, &sentence[..end]);
     }
 }

@@ -1,6 +1,7 @@
--- How long it is between two near instants, as the code takes it.
+-- How long it is between two near instants, as the code takes it; times that texts say are near, and so is the start of a part.
 use mathlib.Core.Path.{_≡_, refl, ap, subst}
-use mathlib.Core.Bool.{Bool, true, false, cond, _&&_}
+use mathlib.Core.List.{List}
+use mathlib.Core.Bool.{Bool, true, false, _&&_}
 use Prim.Native.Nat.{ℕ, _≤_, _<_}
 use native.Mathlib.Omega.{arith}
 use borrow.Author.Tests.{leb-true}
@@ -9,17 +10,18 @@ use lib.IntN.{ℤ, pos, negsuc, natAbs, _-ℤ_}
 use lib.Signed.{mag, nonNeg, leZ}
 use mir.Syntax.{w32, w64}
 use mir.Val.{Fits, SFits}
-use Rattle.text.specs.Logic.{and-right}
+use Rattle.text.specs.Logic.{and-right, clash}
 use Rattle.integers.specs.Magnitude.{abs-sub}
 use Rattle.integers.specs.Bits.{read, read-given, read-small}
 use Rattle.integers.specs.Reads.{reads-abs, sub-fits, sub-reads}
 use Rattle.time.specs.declared.Time.{Time}
-use Rattle.time.specs.declared.Time.the-variants.{Instant}
+use Rattle.time.specs.declared.Time.the-variants.{Instant, Fault}
+use Rattle.time.specs.Time.{timeOf}
+use Rattle.time.proofs.Range.{range}
 use Rattle.sheet.specs.declared.Lasting.the-variants as lasting
-use Rattle.parts.specs.declared.Lasts.{Lasts}
 use Rattle.parts.specs.declared.Lasts.the-variants as lasts
 use Rattle.parts.specs.Sheets.{between, startOf, lastsFrom}
-use Rattle.parts.specs.Gathering.{isNear}
+use Rattle.parts.specs.Gathering.{farthest, isNear}
 
 -- ---- the difference of two near instants
 
@@ -31,15 +33,11 @@ between-tested : (z : ℤ) → between z ≡ tested z
 between-tested (pos n) = refl
 between-tested (negsuc n) = refl
 
--- how long it is, by the difference
-abbrev lasted : ℤ → Lasts
-lasted z = cond (between z) (lasts.Stated (lasting.Seconds (natAbs z))) lasts.OutOfRange
-
 lasting-fits : (z : ℤ) → tested z ≡ true → T (nonNeg z) × Fits w32 (natAbs z)
 lasting-fits (pos n) e = (tt, record { fits = omega (arith, leb-true n 31_536_000 (and-right (leb 1 n) (leb n 31_536_000) e)) })
-lasting-fits (negsuc n) e = absurd (let z : _≡_ {A = ℕ} 0 1 = cc in omega arith)
+lasting-fits (negsuc n) e = clash (cc)
 
-module _ (start end : ℤ) (near : (natAbs start ≤ 300_000_000_000) × (natAbs end ≤ 300_000_000_000)) where
+module _ (start end : ℤ) (near : (natAbs start ≤ farthest) × (natAbs end ≤ farthest)) where
   -- it fits
   pub far-fits : SFits w64 (read w64 end -ℤ read w64 start)
   far-fits = sub-fits (reads-abs end (omega (arith, near))) (reads-abs start (omega (arith, near))) (omega (arith, near, abs-sub end start))
@@ -67,13 +65,13 @@ pub start-given : (effective sent : Time) (i : ℤ) → effective ≡ Instant i 
 start-given effective sent i e h = rw e (ap Instant (read-given i h))
 
 module _ (t : Time) (i : ℤ) (is : t ≡ Instant i) (near : isNear t) where
-  near-instant : natAbs i ≤ 300_000_000_000
+  near-instant : natAbs i ≤ farthest
   near-instant = subst isNear is near
 
   instant-read : read w64 i ≡ i
   instant-read = read-small i (omega (arith, near-instant))
 
-  pub near-read : natAbs (read w64 i) ≤ 300_000_000_000
+  pub near-read : natAbs (read w64 i) ≤ farthest
   near-read = rw instant-read near-instant
 
 pub lasts-given :
@@ -81,3 +79,21 @@ pub lasts-given :
     → lastsFrom (Instant (read w64 i)) (Instant (read w64 e)) ≡ lastsFrom start expires
 lasts-given start expires i e p q near =
     rw (instant-read start i p (near .0), instant-read expires e q (near .1), p, q) refl
+
+-- ---- near times
+
+-- a time that a text says
+pub near-time : (t : List ℕ) → isNear (timeOf t)
+near-time t = go (timeOf t) refl
+  where
+    go : (r : Time) → timeOf t ≡ r → isNear r
+    go (Instant i) q = range t i q
+    go Fault q = tt
+
+-- the start of a part, by its two texts
+pub near-from : (effective sent : List ℕ) → isNear (startOf (timeOf effective) (timeOf sent))
+near-from effective sent = go (timeOf effective) (near-time effective)
+  where
+    go : (r : Time) → isNear r → isNear (startOf r (timeOf sent))
+    go (Instant i) h = h
+    go Fault h = near-time sent

@@ -1,6 +1,6 @@
 -- What is kept while a document is read is what the definitions say of its elements, for any list of elements.
 use mathlib.Core.Path.{_≡_, refl, sym, ap, _∙_}
-use mathlib.Core.Bool.{Bool, true, false, cond, _&&_, _||_}
+use mathlib.Core.Bool.{Bool, true, false, cond, _&&_, _||_, false≢true}
 use mathlib.Core.List.{List, [], _∷_}
 use Prim.Native.Nat.{ℕ, _+_, _-_, _≤_, _<_}
 use native.Mathlib.Omega.{arith}
@@ -13,208 +13,144 @@ use Rattle.text.specs.Logic.{by-test, cond-cases, and-left, or-false, or-assoc}
 use Rattle.sheet.specs.declared.Span.{Span}
 use Rattle.coordinates.specs.declared.Place.{Place}
 use Rattle.schema.specs.Classes as class
-use Rattle.document.specs.Elements.{Element, opened, text, closed, starts, total, gather}
+use Rattle.document.specs.Elements.{Element, opened, text, closed, isStart, fold, counted, gather}
 use Rattle.parts.specs.declared.Facts.{Facts}
 use Rattle.parts.specs.declared.Shapes.{Shapes}
-use Rattle.parts.specs.Elements.{within, ownOf, partOf, spanOf, lastFrom, nowhere, textAt}
-use Rattle.parts.specs.Places.{isShape, shapeHolds, anyShape, anyHolds}
-use Rattle.parts.specs.Gathering.{stored, notedStart, noted, noFacts, seenStart, seenText, seen, noShapes}
+use Rattle.parts.specs.Elements.{within, alertOf, partOf, spanOf, later, nowhere, textSpan}
+use Rattle.parts.specs.Places.{isShape, shapeHolds, anyText, anyShape, anyHolds}
+use Rattle.parts.specs.Gathering.{kept, stored, alertSpan, partSpan, noted, noFacts, looked, seen, noShapes}
 
--- ---- the part asked for and the number of parts
+-- ---- any facts
 
--- the part asked for stays
-part-from : (f : Facts) (es : List Element) → gather noted f es .part ≡ f .part
-unfolding gather
-part-from f [] = refl
-part-from f (opened c p ∷ es) = part-from (notedStart f c) es
-part-from f (text c p t ∷ es) = part-from (noted f (text c p t)) es
-part-from f (closed c ∷ es) = part-from f es
+pub cond-same : {A : Type 0} (b : Bool) (x : A) → cond b x x ≡ x
+cond-same true x = refl
+cond-same false x = refl
 
--- the infos are counted
-pub total-from : (f : Facts) (es : List Element) → gather noted f es .total ≡ f .total + total es
-unfolding gather starts
-total-from f [] = omega arith
-total-from f (opened c p ∷ es) = omega (arith, total-from (notedStart f c) es)
-total-from f (text c p t ∷ es) = omega (arith, total-from (noted f (text c p t)) es)
-total-from f (closed c ∷ es) = omega (arith, total-from f es)
+-- facts to which only the elements of part n add something are those of these elements; get reads them off all that is gathered
+module _ {F G : Type 0} (get : F → G) (note : ℕ → F → Element → F) (look : G → Element → G) (n : ℕ)
+    (on : (k : ℕ) (f : F) (x : Element) → get (note k f x) ≡ cond (eqb k n) (look (get f) x) (get f))
+    (of-start : (g : G) (c p : ℕ) → look g (opened c p) ≡ g) where
+  start-none : (g : G) (x : Element) → isStart class.info x ≡ true → look g x ≡ g
+  start-none g (opened c p) e = of-start g c p
+  start-none g (text c p t) e = absurd (false≢true e)
+  start-none g (closed c) e = absurd (false≢true e)
 
--- ---- one list of spans
+  one-kept :
+      (b : Bool) (k : ℕ) (g : G) (x : Element) (es : List Element) → isStart class.info x ≡ b
+      → fold look (cond (eqb (k + boolByte b) n) (look g x) g) (within (k + boolByte b) n es) ≡ fold look g (within k n (x ∷ es))
+  unfolding fold within
+  one-kept true k g x es e = rw (e, start-none g x e, cond-same (eqb (k + 1) n) g)
+  one-kept false k g x es e =
+      let z : k + 0 ≡ k = omega arith in
+      rw (e, z) (by-test (eqb k n) (λ t. rw t) (λ t. rw t))
 
--- the spans of seven classes from first on, of texts that stand where n infos have started; k have before these elements
-unfoldable kept : (first n k : ℕ) → List Span → List Element → List Span
-kept first n k ss [] = ss
-kept first n k ss (opened c p ∷ es) = kept first n (k + boolByte (eqb c class.info)) ss es
-kept first n k ss (text c p t ∷ es) = kept first n k (cond (eqb k n) (stored first c (spanOf p t) ss) ss) es
-kept first n k ss (closed c ∷ es) = kept first n k ss es
+  pub gather-kept : (k : ℕ) (f : F) (es : List Element) → get (gather note k f es) ≡ fold look (get f) (within k n es)
+  unfolding gather fold within
+  gather-kept k f [] = refl
+  gather-kept k f (x ∷ es) =
+      gather-kept (counted k x) (note (counted k x) f x) es
+      ∙ (rw (on (counted k x) f x) (one-kept (isStart class.info x) k (get f) x es refl))
 
--- the gathering keeps two such lists
-head-from : (f : Facts) (es : List Element) → gather noted f es .head ≡ kept class.identifier 0 (f .total) (f .head) es
-unfolding gather kept
-head-from f [] = refl
-head-from f (opened c p ∷ es) = head-from (notedStart f c) es
-head-from f (text c p t ∷ es) = head-from (noted f (text c p t)) es
-head-from f (closed c ∷ es) = head-from f es
+-- ---- where texts stand
 
-own-from : (f : Facts) (es : List Element) → gather noted f es .own ≡ kept class.urgency (f .part) (f .total) (f .own) es
-unfolding gather kept
-own-from f [] = refl
-own-from f (opened c p ∷ es) = own-from (notedStart f c) es
-own-from f (text c p t ∷ es) = own-from (noted f (text c p t)) es
-own-from f (closed c ∷ es) = own-from f es
+-- a class before the first, or a list that isn't asked for
+pub store-out : (asked : Bool) (first c : ℕ) (s : Span) (ss : List Span) → asked && leb first c ≡ false → ss ≡ cond asked (stored first c s ss) ss
+store-out true first c s ss e = rw e
+store-out false first c s ss e = refl
+
+-- one list of spans, from a first class on
+abbrev put : ℕ → List Span → Element → List Span
+put first ss (opened c p) = ss
+put first ss (text c p t) = stored first c (spanOf p t) ss
+put first ss (closed c) = ss
 
 -- a class at its place in the list
-module _ (first c : ℕ) (low : first ≤ c) (high : c < first + 7) where
-  stored-length : (d : ℕ) (s : Span) (ss : List Span) → length ss ≡ 7 → length (stored first d s ss) ≡ 7
+module _ (first c : ℕ) (low : first ≤ c) (high : c - first < kept) where
+  stored-length : (d : ℕ) (s : Span) (ss : List Span) → length ss ≡ kept → length (stored first d s ss) ≡ kept
   stored-length d s ss h =
-      cond-cases (λ (r : List Span). length r ≡ 7) (leb first d && ltb d (first + 7)) _ _ (λ e. length-set ss (d - first) s ∙ h) (λ e. h)
+      cond-cases (λ (r : List Span). length r ≡ kept) (leb first d && ltb (d - first) kept) _ _ (λ e. length-set ss (d - first) s ∙ h) (λ e. h)
 
   -- a span that is put in stands at its own class only
   stored-at :
-      (d : ℕ) (s : Span) (ss : List Span) → length ss ≡ 7
+      (d : ℕ) (s : Span) (ss : List Span) → length ss ≡ kept
       → getD (stored first d s ss) (c - first) nowhere ≡ cond (eqb d c) s (getD ss (c - first) nowhere)
-  stored-at d s ss h = by-test (eqb d c) same other
-    where
-      same : eqb d c ≡ true → getD (stored first d s ss) (c - first) nowhere ≡ cond (eqb d c) s (getD ss (c - first) nowhere)
-      same e =
-          rw (eqb-true d c e, eq-eqb c c refl, le-leb first c low, lt-ltb c (first + 7) high)
-          (getD-set-same ss (c - first) s nowhere (omega arith))
-
-      other : eqb d c ≡ false → getD (stored first d s ss) (c - first) nowhere ≡ cond (eqb d c) s (getD ss (c - first) nowhere)
-      other e =
-          rw e
-          (cond-cases (λ (r : List Span). getD r (c - first) nowhere ≡ getD ss (c - first) nowhere) (leb first d && ltb d (first + 7)) _ _
-          (λ i.
-          let b = leb-true first d (and-left (leb first d) (ltb d (first + 7)) i) in
-          getD-set-other ss (d - first) (c - first) s nowhere (λ q. eqb-false d c e (omega arith)))
-          (λ i. refl))
-
-  -- what is kept there is where the last text stands
-  kept-at :
-      (n k : ℕ) (ss : List Span) (es : List Element) → length ss ≡ 7
-      → getD (kept first n k ss es) (c - first) nowhere ≡ lastFrom c (getD ss (c - first) nowhere) (within k n es)
-  unfolding kept within lastFrom
-  kept-at n k ss [] h = refl
-  kept-at n k ss (opened d p ∷ es) h =
-      by-test (eqb d class.info)
-      (λ e. rw e (kept-at n (k + 1) ss es h))
-      (λ e. let z : k + 0 ≡ k = omega arith in rw (e, z) (kept-at n k ss es h ∙ skip))
-    where
-      skip :
-          lastFrom c (getD ss (c - first) nowhere) (within k n es)
-          ≡ lastFrom c (getD ss (c - first) nowhere) (cond (eqb k n) (opened d p ∷ within k n es) (within k n es))
-      skip = by-test (eqb k n) (λ t. rw t refl) (λ t. rw t refl)
-  kept-at n k ss (text d p t ∷ es) h =
-      by-test (eqb k n)
+  stored-at d s ss h =
+      by-test (eqb d c)
+      (λ e.
+      rw (eqb-true d c e, eq-eqb c c refl, le-leb first c low, lt-ltb (c - first) kept high)
+      (getD-set-same ss (c - first) s nowhere (omega arith)))
       (λ e.
       rw e
-      (kept-at n k (stored first d (spanOf p t) ss) es (stored-length d (spanOf p t) ss h)
-      ∙ ap (λ (s : Span). lastFrom c s (within k n es)) (stored-at d (spanOf p t) ss h)))
-      (λ e. rw e (kept-at n k ss es h))
-  kept-at n k ss (closed d ∷ es) h =
-      by-test (eqb k n) (λ e. rw e (kept-at n k ss es h)) (λ e. rw e (kept-at n k ss es h))
+      (cond-cases (λ (r : List Span). getD r (c - first) nowhere ≡ getD ss (c - first) nowhere) (leb first d && ltb (d - first) kept) _ _
+      (λ i.
+      let b = leb-true first d (and-left (leb first d) (ltb (d - first) kept) i) in
+      getD-set-other ss (d - first) (c - first) s nowhere (λ q. eqb-false d c e (omega arith)))
+      (λ i. refl)))
 
-  -- from seven empty places on
-  empty-at : (n : ℕ) (es : List Element) → getD (kept first n 0 (replicate 7 nowhere) es) (c - first) nowhere ≡ textAt c (within 0 n es)
-  empty-at n es =
-      kept-at n 0 (replicate 7 nowhere) es refl
-      ∙ ap (λ (s : Span). lastFrom c s (within 0 n es)) (getD-replicate 7 (c - first) nowhere nowhere (omega arith))
+  put-at :
+      (ss : List Span) (es : List Element) → length ss ≡ kept
+      → getD (fold (put first) ss es) (c - first) nowhere ≡ fold (later c) (getD ss (c - first) nowhere) es
+  unfolding fold
+  put-at ss [] h = refl
+  put-at ss (opened d p ∷ es) h = put-at ss es h
+  put-at ss (text d p t ∷ es) h =
+      put-at (stored first d (spanOf p t) ss) es (stored-length d (spanOf p t) ss h)
+      ∙ ap (λ (s : Span). fold (later c) s es) (stored-at d (spanOf p t) ss h)
+  put-at ss (closed d ∷ es) h = put-at ss es h
 
--- ---- the facts of a sheet
+  -- from empty places on
+  empty-at : (es : List Element) → getD (fold (put first) (replicate kept nowhere) es) (c - first) nowhere ≡ textSpan es c
+  empty-at es =
+      put-at (replicate kept nowhere) es refl
+      ∙ ap (λ (s : Span). fold (later c) s es) (getD-replicate kept (c - first) nowhere nowhere high)
 
-module _ (n : ℕ) (es : List Element) where
-  pub part-kept : gather noted (noFacts n) es .part ≡ n
-  part-kept = part-from (noFacts n) es
+module _ (n : ℕ) (es : List Element) (c : ℕ) where
+  -- of the alert itself
+  pub alert-kept : class.identifier ≤ c → c - class.identifier < kept → alertSpan (gather (noted n) 0 noFacts es) c ≡ textSpan (alertOf es) c
+  alert-kept h g =
+      rw (gather-kept (λ (f : Facts). f .alert) (noted n) (put class.identifier) 0 on (λ ss d p. refl) 0 noFacts es)
+      (empty-at class.identifier c h g (alertOf es))
+    where
+      on : (k : ℕ) (f : Facts) (x : Element) → noted n k f x .alert ≡ cond (eqb k 0) (put class.identifier (f .alert) x) (f .alert)
+      on k f (opened d p) = sym (cond-same (eqb k 0) (f .alert))
+      on k f (text d p t) = refl
+      on k f (closed d) = sym (cond-same (eqb k 0) (f .alert))
 
-  pub total-kept : gather noted (noFacts n) es .total ≡ total es
-  total-kept = omega (arith, total-from (noFacts n) es)
-
-  module _ (c : ℕ) where
-    -- where the alert's own texts stand
-    pub head-kept :
-        class.identifier ≤ c → c < class.identifier + 7
-        → getD (gather noted (noFacts n) es .head) (c - class.identifier) nowhere ≡ textAt c (ownOf es)
-    head-kept h g =
-        rw (head-from (noFacts n) es) (empty-at class.identifier c h g 0 es)
-
-    -- where the texts of the part asked for stand
-    pub own-kept :
-        class.urgency ≤ c → c < class.urgency + 7
-        → getD (gather noted (noFacts n) es .own) (c - class.urgency) nowhere ≡ textAt c (partOf n es)
-    own-kept h g =
-        rw (own-from (noFacts n) es) (empty-at class.urgency c h g n es)
+  -- of the part asked for
+  pub part-kept : class.urgency ≤ c → c - class.urgency < kept → partSpan (gather (noted n) 0 noFacts es) c ≡ textSpan (partOf n es) c
+  part-kept h g =
+      rw (gather-kept (λ (f : Facts). f .part) (noted n) (put class.urgency) n on (λ ss d p. refl) 0 noFacts es)
+      (empty-at class.urgency c h g (partOf n es))
+    where
+      on : (k : ℕ) (f : Facts) (x : Element) → noted n k f x .part ≡ cond (eqb k n) (put class.urgency (f .part) x) (f .part)
+      on k f (opened d p) = sym (cond-same (eqb k n) (f .part))
+      on k f (text d p t) = refl
+      on k f (closed d) = sym (cond-same (eqb k n) (f .part))
 
 -- ---- shapes
 
-module _ (p : Place) where
-  shapes-part : (f : Shapes) (es : List Element) → gather (seen p) f es .part ≡ f .part
-  unfolding gather
-  shapes-part f [] = refl
-  shapes-part f (opened c q ∷ es) = shapes-part (seenStart f c) es
-  shapes-part f (text c q t ∷ es) = shapes-part (seenText p f c t) es
-  shapes-part f (closed c ∷ es) = shapes-part f es
+-- something that texts may be: whether one is
+any-looked :
+    (p : Place) (is : ℕ → List ℕ → Bool) (get : Shapes → Bool)
+    → ((f : Shapes) (c q : ℕ) (t : List ℕ) → get (looked p f (text c q t)) ≡ get f || is c t)
+    → (f : Shapes) (es : List Element) → get (fold (looked p) f es) ≡ get f || anyText is es
+unfolding fold anyText
+any-looked p is get of-text f [] = sym (or-false (get f))
+any-looked p is get of-text f (opened c q ∷ es) = any-looked p is get of-text f es
+any-looked p is get of-text f (text c q t ∷ es) =
+    any-looked p is get of-text (looked p f (text c q t)) es ∙ (rw (of-text f c q t) (or-assoc (get f) (is c t) (anyText is es)))
+any-looked p is get of-text f (closed c ∷ es) = any-looked p is get of-text f es
 
-  pub shapes-total : (f : Shapes) (es : List Element) → gather (seen p) f es .total ≡ f .total + total es
-  unfolding gather starts
-  shapes-total f [] = omega arith
-  shapes-total f (opened c q ∷ es) = omega (arith, shapes-total (seenStart f c) es)
-  shapes-total f (text c q t ∷ es) = omega (arith, shapes-total (seenText p f c t) es)
-  shapes-total f (closed c ∷ es) = omega (arith, shapes-total f es)
+module _ (p : Place) (n : ℕ) (es : List Element) where
+  seen-part : gather (seen n p) 0 noShapes es ≡ fold (looked p) noShapes (partOf n es)
+  seen-part = gather-kept (λ (f : Shapes). f) (seen n p) (looked p) n (λ k f x. refl) (λ f c q. refl) 0 noShapes es
 
-  -- something that texts may show: whether one of the part asked for does
-  module _ (shows : ℕ → List ℕ → Bool) (any : List Element → Bool)
-      (none : any [] ≡ false)
-      (of-start : (c q : ℕ) (es : List Element) → any (opened c q ∷ es) ≡ any es)
-      (of-text : (c q : ℕ) (t : List ℕ) (es : List Element) → any (text c q t ∷ es) ≡ (shows c t || any es))
-      (of-end : (c : ℕ) (es : List Element) → any (closed c ∷ es) ≡ any es)
-      (get : Shapes → Bool)
-      (on-start : (f : Shapes) (c : ℕ) → get (seenStart f c) ≡ get f)
-      (on-text : (f : Shapes) (c : ℕ) (t : List ℕ) → get (seenText p f c t) ≡ (get f || (eqb (f .total) (f .part) && shows c t))) where
-    shown-from : (f : Shapes) (es : List Element) → get (gather (seen p) f es) ≡ (get f || any (within (f .total) (f .part) es))
-    unfolding gather within
-    shown-from f [] = rw none (sym (or-false (get f)))
-    shown-from f (opened c q ∷ es) =
-        shown-from (seenStart f c) es ∙ (rw (on-start f c) (ap (λ (b : Bool). get f || b) (turn (eqb c class.info))))
-      where
-        turn :
-            (b : Bool)
-            → any (within (f .total + boolByte b) (f .part) es)
-            ≡ any
-            (cond b (within (f .total + 1) (f .part) es)
-            (cond (eqb (f .total) (f .part)) (opened c q ∷ within (f .total) (f .part) es) (within (f .total) (f .part) es)))
-        turn true = refl
-        turn false =
-            let z : f .total + 0 ≡ f .total = omega arith in
-            rw z (by-test (eqb (f .total) (f .part)) (λ e. rw e (sym (of-start c q _))) (λ e. rw e refl))
-    shown-from f (text c q t ∷ es) =
-        shown-from (seenText p f c t) es ∙ rw (on-text f c t) (turn (eqb (f .total) (f .part)) (within (f .total) (f .part) es))
-      where
-        turn : (b : Bool) (w : List Element) → (get f || (b && shows c t) || any w) ≡ (get f || any (cond b (text c q t ∷ w) w))
-        turn true w = rw (of-text c q t w) (or-assoc (get f) (shows c t) (any w))
-        turn false w = rw (or-false (get f)) refl
-    shown-from f (closed c ∷ es) =
-        shown-from f es ∙ ap (λ (b : Bool). get f || b) (turn (eqb (f .total) (f .part)) (within (f .total) (f .part) es))
-      where
-        turn : (b : Bool) (w : List Element) → any w ≡ any (cond b (closed c ∷ w) w)
-        turn true w = sym (of-end c w)
-        turn false w = refl
+  pub any-kept : gather (seen n p) 0 noShapes es .any ≡ anyShape (partOf n es)
+  any-kept =
+      ap (λ (f : Shapes). f .any) seen-part
+      ∙ any-looked p (λ (c : ℕ) (t : List ℕ). isShape c) (λ (f : Shapes). f .any) (λ f c q t. refl) noShapes (partOf n es)
 
-  module _ (n : ℕ) (es : List Element) where
-    any-kept : gather (seen p) (noShapes n) es .any ≡ anyShape (partOf n es)
-    unfolding anyShape
-    any-kept =
-        shown-from (λ (c : ℕ) (t : List ℕ). isShape c) anyShape refl (λ c q xs. refl) (λ c q t xs. refl) (λ c xs. refl)
-        (λ (f : Shapes). f .any) (λ f c. refl) (λ f c t. refl) (noShapes n) es
-
-    inside-kept : gather (seen p) (noShapes n) es .inside ≡ anyHolds p (partOf n es)
-    unfolding anyHolds
-    inside-kept =
-        shown-from (shapeHolds p) (anyHolds p) refl (λ c q xs. refl) (λ c q t xs. refl) (λ c xs. refl)
-        (λ (f : Shapes). f .inside) (λ f c. refl) (λ f c t. refl) (noShapes n) es
-
-    -- what is kept of shapes
-    pub shapes-kept :
-        (gather (seen p) (noShapes n) es .part ≡ n)
-        × (gather (seen p) (noShapes n) es .total ≡ total es)
-        × (gather (seen p) (noShapes n) es .any ≡ anyShape (partOf n es))
-        × (gather (seen p) (noShapes n) es .inside ≡ anyHolds p (partOf n es))
-    shapes-kept = (shapes-part (noShapes n) es, omega (arith, shapes-total (noShapes n) es), any-kept, inside-kept)
+  pub inside-kept : gather (seen n p) 0 noShapes es .inside ≡ anyHolds p (partOf n es)
+  inside-kept =
+      ap (λ (f : Shapes). f .inside) seen-part
+      ∙ any-looked p (shapeHolds p) (λ (f : Shapes). f .inside) (λ f c q t. refl) noShapes (partOf n es)

@@ -1,12 +1,6 @@
 pub mod Lookups
 pub mod Keeping
 pub mod Meant
-pub mod Near
-pub mod First
+pub mod Durations
 pub mod Spans
 pub mod Ranges
-pub mod Durations
-pub mod Along
-pub mod Noting
-pub mod Seeing
-pub mod Drawing

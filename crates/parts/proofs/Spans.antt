@@ -11,7 +11,7 @@ use lib.ListN.{length, take, drop}
 use lib.Seq.{drop-drop}
 use Rattle.text.specs.Ascii.{ascii}
 use Rattle.text.specs.Logic.{by-test, cond-cases, and-left, and-right}
-use Rattle.text.specs.Parts.{startsWith}
+use Rattle.text.specs.Parts.{startsWith, part}
 use Rattle.xml.specs.Bytes.{isControl}
 use Rattle.xml.specs.Texts.{isReference, isFault}
 use Rattle.sheet.specs.declared.Span.{Span}
@@ -20,12 +20,12 @@ use Rattle.sheet.specs.Reading.{spanIn}
 use Rattle.schema.specs.Classes as class
 use Rattle.rules.specs.Texts.{nameRule, textRule}
 use Rattle.rules.proofs.Kept.{name-kept, identifier-rule, sender-rule}
-use Rattle.document.specs.Elements.{Element, opened, text, closed, isStart, accepted}
+use Rattle.document.specs.Elements.{Element, opened, text, closed, isStart, accepted, fold}
 use Rattle.document.specs.Documents.{documentOf}
 use Rattle.document.proofs.Accepted.{Every}
-use Rattle.document.proofs.Sound.{Ruled, all-ruled, Shown, all-shown, Clean, all-clean}
-use Rattle.parts.specs.Elements.{within, ownOf, spanOf, later, lastFrom, textAt}
-use Rattle.parts.proofs.First.{first-elements}
+use Rattle.document.proofs.Schema.{first-elements}
+use Rattle.document.proofs.Sound.{Ruled, Shown, Clean, all-hold, whole-shown, whole-clean}
+use Rattle.parts.specs.Elements.{within, alertOf, spanOf, later, textSpan}
 
 -- ---- no "]]>" in a text without a fault
 
@@ -85,11 +85,10 @@ module _ (l : List ℕ) (c : ℕ) (rule : (t : List ℕ) → textRule c t ≡ na
         right = rw (g, z, le-leb 1 (length t) (k .0), le-leb (length t) 128 (k .1 .0), k .1 .1);
       }
 
-  all-good : (es : List Element) → Every Ruled es → Every (Shown l) es → Every (Clean l) es → Every Good es
-  all-good [] r s f = tt
-  all-good (opened d p ∷ es) r s f = (tt, all-good es (r .1) (s .1) (f .1))
-  all-good (text d p t ∷ es) r s f = (text-good d p t (r .0) (s .0) (f .0), all-good es (r .1) (s .1) (f .1))
-  all-good (closed d ∷ es) r s f = (tt, all-good es (r .1) (s .1) (f .1))
+  all-good : (es : List Element) → documentOf l ≡ accepted es → Every Good es
+  all-good =
+      all-hold l Good (λ d p h. tt)
+      (λ d from until w. text-good d from (part l from until) (w .rule) (whole-shown l d from until w) (whole-clean l d from until w)) (λ d. tt)
 
   -- among the elements of a part too
   within-good : (k n : ℕ) (es : List Element) → Every Good es → Every Good (within k n es)
@@ -99,9 +98,9 @@ module _ (l : List ℕ) (c : ℕ) (rule : (t : List ℕ) → textRule c t ≡ na
       cond-cases (Every Good) (isStart class.info x) _ _ (λ e. within-good (k + 1) n es (g .1)) λ e.
       cond-cases (Every Good) (eqb k n) _ _ (λ t. (g .0, within-good k n es (g .1))) (λ t. within-good k n es (g .1))
 
-  -- and so is the last one behind one
-  last-good : (s : Span) (es : List Element) → NameIn l s → Every Good es → NameIn l (lastFrom c s es)
-  unfolding lastFrom
+  -- and so is the last one after one
+  last-good : (s : Span) (es : List Element) → NameIn l s → Every Good es → NameIn l (fold (later c) s es)
+  unfolding fold
   last-good s [] h g = h
   last-good s (opened d p ∷ es) h g = last-good s es h (g .1)
   last-good s (text d p t ∷ es) h g =
@@ -113,33 +112,26 @@ module _ (l : List ℕ) (c : ℕ) (rule : (t : List ℕ) → textRule c t ≡ na
 
 module _ (l : List ℕ) (es : List Element) (d : documentOf l ≡ accepted es) where
   -- by the first elements, one of which is a text of the class
-  own-name :
+  alert-name :
       (c : ℕ) (rule : (t : List ℕ) → textRule c t ≡ nameRule t)
       → ((p q r : ℕ) (t u : List ℕ) (xs : List Element)
       → Every (Good l c rule) (opened class.alert p ∷ text class.identifier q t ∷ text class.sender r u ∷ xs)
-      → NameIn l (textAt c (opened class.alert p ∷ text class.identifier q t ∷ text class.sender r u ∷ [])))
-      → NameIn l (textAt c (ownOf es))
-  unfolding within lastFrom
-  own-name c rule f =
-      first-elements (λ (xs : List Element). Every (Good l c rule) xs → NameIn l (textAt c (ownOf xs)))
+      → NameIn l (textSpan (opened class.alert p ∷ text class.identifier q t ∷ text class.sender r u ∷ []) c))
+      → NameIn l (textSpan (alertOf es) c)
+  unfolding within fold
+  alert-name c rule f =
+      first-elements (λ (xs : List Element). Every (Good l c rule) xs → NameIn l (textSpan (alertOf xs) c))
       (λ p q r t u xs g.
-      let s = textAt c (opened class.alert p ∷ text class.identifier q t ∷ text class.sender r u ∷ []) in
+      let s = textSpan (opened class.alert p ∷ text class.identifier q t ∷ text class.sender r u ∷ []) c in
       last-good l c rule s (within 0 0 xs) (f p q r t u xs g) (within-good l c rule 0 0 xs (g .1 .1 .1)))
-      l es d (all-good l c rule es (all-ruled l es d) (all-shown l es d) (all-clean l es d))
+      l es d (all-good l c rule es d)
 
   -- the identifier
-  pub name-in : NameIn l (textAt class.identifier (ownOf es))
-  unfolding lastFrom
-  name-in = own-name class.identifier identifier-rule (λ p q r t u xs g. g .1 .0 refl)
+  pub name-in : NameIn l (textSpan (alertOf es) class.identifier)
+  unfolding fold
+  name-in = alert-name class.identifier identifier-rule (λ p q r t u xs g. g .1 .0 refl)
 
   -- the sender
-  pub sender-in : NameIn l (textAt class.sender (ownOf es))
-  unfolding lastFrom
-  sender-in = own-name class.sender sender-rule (λ p q r t u xs g. g .1 .1 .0 refl)
-
-  -- both lie in the document
-  pub name-there : textAt class.identifier (ownOf es) .start + textAt class.identifier (ownOf es) .len ≤ length l
-  name-there = name-in .inside
-
-  pub sender-there : textAt class.sender (ownOf es) .start + textAt class.sender (ownOf es) .len ≤ length l
-  sender-there = sender-in .inside
+  pub sender-in : NameIn l (textSpan (alertOf es) class.sender)
+  unfolding fold
+  sender-in = alert-name class.sender sender-rule (λ p q r t u xs g. g .1 .1 .0 refl)

@@ -5,21 +5,20 @@ use Prim.Native.Nat.{ℕ, _+_}
 use lib.Dec.{eqb, leb}
 use lib.ListN.{length}
 use Rattle.sheet.specs.declared.Span.{Span}
-use Rattle.sheet.specs.Reading.{spanIn}
 use Rattle.schema.specs.Classes as class
-use Rattle.document.specs.Elements.{Element, opened, text, closed, isStart, total}
+use Rattle.document.specs.Elements.{Element, opened, text, closed, isStart, total, fold}
 use Rattle.parts.specs.declared.Lookup.{Lookup}
 use Rattle.parts.specs.declared.Lookup.the-variants.{There, Missing}
 
--- "Parts are the info elements in their order, counted from 1": the elements behind the start of the n-th info and before that of the next;
+-- "Parts are the info elements in their order, counted from 1": the elements after the start of the n-th info and before that of the next;
 -- for 0 those before the first. k infos have started before the elements
 unfoldable pub within : ℕ → ℕ → List Element → List Element
 within k n [] = []
 within k n (x ∷ xs) = cond (isStart class.info x) (within (k + 1) n xs) (cond (eqb k n) (x ∷ within k n xs) (within k n xs))
 
 -- what stands in the alert itself before its first info, and what in the n-th info
-abbrev pub ownOf : List Element → List Element
-ownOf es = within 0 0 es
+abbrev pub alertOf : List Element → List Element
+alertOf es = within 0 0 es
 
 abbrev pub partOf : ℕ → List Element → List Element
 partOf n es = within 0 n es
@@ -38,17 +37,10 @@ later c s (opened d p) = s
 later c s (text d p t) = cond (eqb d c) (spanOf p t) s
 later c s (closed d) = s
 
-unfoldable pub lastFrom : ℕ → Span → List Element → Span
-lastFrom c s [] = s
-lastFrom c s (x ∷ xs) = lastFrom c (later c s x) xs
-
 -- no text, at no place
 abbrev pub nowhere : Span
 nowhere = record { start = 0; len = 0 }
 
-abbrev pub textAt : ℕ → List Element → Span
-textAt c es = lastFrom c nowhere es
-
--- the text of a class as a part of the document l; empty where there is none
-abbrev pub textOf : List ℕ → ℕ → List Element → List ℕ
-textOf l c es = spanIn l (textAt c es)
+-- where the text of a class stands among elements; nowhere, if there is none
+abbrev pub textSpan : List Element → ℕ → Span
+textSpan es c = fold (later c) nowhere es

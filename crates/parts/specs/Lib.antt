@@ -3,4 +3,3 @@ pub mod Codes
 pub mod Sheets
 pub mod Places
 pub mod Gathering
-pub mod Samples

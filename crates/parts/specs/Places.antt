@@ -30,29 +30,30 @@ isInside inclusion.Fault = false
 abbrev pub shapeHolds : Place → ℕ → List ℕ → Bool
 shapeHolds p c t = cond (eqb c class.polygon) (isInside (polygonHolds t p)) (cond (eqb c class.circle) (isInside (circleHolds t p)) false)
 
--- there is a shape among elements, and one that holds a place
-unfoldable pub anyShape : List Element → Bool
-anyShape [] = false
-anyShape (opened c q ∷ es) = anyShape es
-anyShape (text c q t ∷ es) = isShape c || anyShape es
-anyShape (closed c ∷ es) = anyShape es
+-- whether some text among elements is such, by its class and bytes
+unfoldable pub anyText : (ℕ → List ℕ → Bool) → List Element → Bool
+anyText is [] = false
+anyText is (opened c q ∷ es) = anyText is es
+anyText is (text c q t ∷ es) = is c t || anyText is es
+anyText is (closed c ∷ es) = anyText is es
 
-unfoldable pub anyHolds : Place → List Element → Bool
-anyHolds p [] = false
-anyHolds p (opened c q ∷ es) = anyHolds p es
-anyHolds p (text c q t ∷ es) = shapeHolds p c t || anyHolds p es
-anyHolds p (closed c ∷ es) = anyHolds p es
+-- there is a shape among elements, and one that holds a place
+abbrev pub anyShape : List Element → Bool
+anyShape es = anyText (λ c t. isShape c) es
+
+abbrev pub anyHolds : Place → List Element → Bool
+anyHolds p es = anyText (shapeHolds p) es
 
 -- "A part answers inside if any of its shapes holds the place, else outside, or no shape where it has neither polygon nor circle, as part 0 never has"
-abbrev pub placedAmong : Place → List Element → CapPlace
-placedAmong p es = cond (anyHolds p es) placed.Inside (cond (anyShape es) placed.Outside placed.NoShape)
+abbrev pub placedAmong : (holds any : Bool) → CapPlace
+placedAmong holds any = cond holds placed.Inside (cond any placed.Outside placed.NoShape)
 
-abbrev pub placedInPart : Place → List Element → Lookup → CapPlace
-placedInPart p es Missing = placed.NotThere
-placedInPart p es (There n) = cond (inRange p) (placedAmong p (partOf n es)) placed.OutOfRange
+abbrev pub placedInPart : Place → (holds any : Bool) → Lookup → CapPlace
+placedInPart p holds any Missing = placed.NotThere
+placedInPart p holds any (There n) = cond (inRange p) (placedAmong holds any) placed.OutOfRange
 
 abbrev pub placedFrom : Place → ℕ → Verdict → CapPlace
-placedFrom p n (accepted es) = placedInPart p es (lookUp n (total es))
+placedFrom p n (accepted es) = placedInPart p (anyHolds p (partOf n es)) (anyShape (partOf n es)) (lookUp n (total es))
 placedFrom p n (refused k q) = placed.Refused k q
 
 -- whether the n-th part of the document l holds a place
@@ -68,10 +69,10 @@ placeNumber placed.NotThere = 21
 placeNumber placed.OutOfRange = 6
 placeNumber (placed.Refused k q) = k
 
-abbrev pub placePlace : CapPlace → ℕ
-placePlace placed.Inside = 0
-placePlace placed.Outside = 0
-placePlace placed.NoShape = 0
-placePlace placed.NotThere = 0
-placePlace placed.OutOfRange = 0
-placePlace (placed.Refused k q) = q
+abbrev pub refusalOffset : CapPlace → ℕ
+refusalOffset placed.Inside = 0
+refusalOffset placed.Outside = 0
+refusalOffset placed.NoShape = 0
+refusalOffset placed.NotThere = 0
+refusalOffset placed.OutOfRange = 0
+refusalOffset (placed.Refused k q) = q

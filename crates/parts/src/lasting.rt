@@ -7,7 +7,10 @@ ghost use Prim.Native.Nat.{_≤_};
 ghost use lib.IntN.{natAbs};
 ghost use Rattle.time.specs.declared.Time.the-variants.{Instant};
 ghost use Rattle.parts.specs.Sheets.{startOf, lastsFrom};
-ghost use Rattle.parts.specs.Gathering.{isNear};
+ghost use Rattle.parts.specs.Gathering.{farthest, isNear};
+
+// The longest lasting time, in seconds.
+const LONGEST: i64 = 31_536_000;
 
 // The time from which a part lasts.
 pub fn start_of(effective: Time, sent: Time) -> Time
@@ -21,11 +24,11 @@ pub fn start_of(effective: Time, sent: Time) -> Time
 
 // How long it is from one instant to another.
 fn lasts_between(start: i64, end: i64) -> Lasts
-    requires { ⌜ (natAbs start ≤ 300_000_000_000) × (natAbs end ≤ 300_000_000_000) ⌝ }
+    requires { ⌜ (natAbs start ≤ farthest) × (natAbs end ≤ farthest) ⌝ }
     ensures { λ r. ⌜ r ≡ lastsFrom (Instant start) (Instant end) ⌝ }
 {
     let seconds = end - start;
-    if (1 <= seconds) & (seconds <= 31_536_000) {
+    if (1 <= seconds) & (seconds <= LONGEST) {
         return Lasts::Stated(Lasting::Seconds(seconds as u32));
     }
     Lasts::OutOfRange

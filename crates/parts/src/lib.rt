@@ -9,24 +9,22 @@ ghost use Rattle.parts.specs.Sheets.{capSheet};
 ghost use Rattle.parts.specs.Places.{capPlace};
 
 mod areas; // areas.rt: polygons and circles
-mod codes; // codes.rt: codes as values
 mod lasting; // lasting.rt: how long a part lasts
 mod sheets; // sheets.rt: the sheet of a part
 mod texts; // texts.rt: where the texts of a sheet stand
 
+// How many classes, from a first one on, have the places of their texts kept.
+pub const KEPT: usize = 7;
+
 // Where the texts stand that a sheet is drawn from: those of the alert's own classes from identifier to scope, and those of the asked part's classes from
-// urgency to expires; with the part asked for and the infos so far.
+// urgency to expires.
 pub struct Facts {
-    pub part: usize,
-    pub total: usize,
-    pub head: [Span; 7],
-    pub own: [Span; 7],
+    pub alert: [Span; KEPT],
+    pub part: [Span; KEPT],
 }
 
-// Whether the part asked for has a shape, and one that holds the place asked about; with the infos so far.
+// Whether the part asked for has a shape, and one that holds the place asked about.
 pub struct Shapes {
-    pub part: usize,
-    pub total: usize,
     pub any: bool,
     pub inside: bool,
 }
@@ -62,9 +60,9 @@ pub enum CapPlace {
     Refused(u8, usize),
 }
 
-// Whether a document was read to its end, or refused (number, place).
+// The number of parts of a document that was read to its end, or its refusal (number, place).
 pub enum Outcome {
-    Accepted,
+    Accepted(usize),
     Refused(u8, usize),
 }
 
@@ -74,9 +72,9 @@ pub struct Reading {
     pub facts: Facts,
 }
 
-// What was seen of a document's shapes, or that it is refused (number, place).
+// The number of parts of a document and what was seen of its shapes, or its refusal (number, place).
 pub enum View {
-    Accepted(Shapes),
+    Accepted(usize, Shapes),
     Refused(u8, usize),
 }
 
@@ -103,7 +101,7 @@ pub fn cap_sheet(s: &[u8], part: usize) -> CapSheet
     let read = texts::read_facts(s, part);
     let outcome = read.outcome;
     match outcome {
-        Outcome::Accepted => sheets::sheet_of_part(s, read.facts),
+        Outcome::Accepted(total) => sheets::sheet_of_part(s, part, total, read.facts),
         Outcome::Refused(number, place) => CapSheet::Refused(number, place),
     }
 }
@@ -114,7 +112,7 @@ pub fn cap_place(s: &[u8], part: usize, place: Place) -> CapPlace
 {
     let view = areas::read_shapes(s, part, place);
     match view {
-        View::Accepted(f) => areas::placed_in_part(f, place),
+        View::Accepted(total, f) => areas::placed_in_part(part, total, f, place),
         View::Refused(number, at) => CapPlace::Refused(number, at),
     }
 }

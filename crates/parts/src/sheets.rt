@@ -3,75 +3,129 @@ use crate::CapSheet;
 use crate::Facts;
 use crate::Lasts;
 use crate::Lookup;
-use crate::codes;
 use crate::lasting;
+use codes::list;
+use codes::texts::code_of;
+use codes::values;
 use schema::class;
 use sheet::CapFacts;
 use sheet::Lasting;
 use sheet::Part;
 use sheet::Parts;
+use sheet::Span;
 use sheet::span_in;
+use time::Time;
 ghost use mathlib.Core.Path.{_≡_};
-ghost use Prim.Native.Nat.{_≤_, _<_};
-ghost use lib.ListN.{length};
-ghost use Rattle.parts.specs.Gathering.{headText, ownText, lastsBy, partBy, sheetBy, sheetOfFacts};
+ghost use Prim.Native.Nat.{_≤_};
+ghost use Rattle.codes.specs.Lists.{codeOf};
+ghost use Rattle.time.specs.Time.{timeOf};
+ghost use Rattle.sheet.specs.Reading.{spanIn};
+ghost use Rattle.parts.specs.Elements.{lookUp};
+ghost use Rattle.parts.specs.Sheets.{lastsOf, partFacts, sheetWith, sheetLasting, sheetOfPart};
+ghost use Rattle.parts.specs.Gathering.{alertSpan, partSpan};
+
+// The time that the text at a span says.
+fn time_in(s: &[u8], span: Span) -> Time
+    ensures { λ r. ⌜ r ≡ timeOf (spanIn (now (s .entry)) span) ⌝ }
+{
+    time::read_time(span_in(s, span))
+}
+
+// The number of the text at a span in a code list.
+fn code_in(s: &[u8], list: usize, span: Span) -> usize
+    ensures { λ r. ⌜ r ≡ codeOf list (spanIn (now (s .entry)) span) ⌝ }
+{
+    code_of(list, span_in(s, span))
+}
 
 // How long the part asked for lasts.
 fn lasts_of(s: &[u8], f: Facts) -> Lasts
-    ensures { λ r. ⌜ r ≡ lastsBy (now (s .entry)) f ⌝ }
+    ensures { λ r. ⌜ r ≡ lastsOf (now (s .entry)) (alertSpan f) (partSpan f) ⌝ }
 {
-    let effective = time::read_time(span_in(s, f.own[class::EFFECTIVE - class::URGENCY]));
-    let sent = time::read_time(span_in(s, f.head[class::SENT - class::IDENTIFIER]));
-    let expires = time::read_time(span_in(s, f.own[class::EXPIRES - class::URGENCY]));
+    let effective = time_in(s, f.part[class::EFFECTIVE - class::URGENCY]);
+    let sent = time_in(s, f.alert[class::SENT - class::IDENTIFIER]);
+    let expires = time_in(s, f.part[class::EXPIRES - class::URGENCY]);
     lasting::lasts_from(lasting::start_of(effective, sent), expires)
 }
 
 // The facts of the part asked for, which lasts some time.
-fn part_of(s: &[u8], f: Facts, lasting: Lasting) -> Part
-    requires { ⌜ (f .part ≤ f .total) × (f .total ≤ 255) ⌝ }
-    ensures { λ r. ⌜ r ≡ partBy (now (s .entry)) f lasting ⌝ }
+fn part_of(s: &[u8], part: usize, total: usize, f: Facts, lasting: Lasting) -> Part
+    requires { ⌜ (part ≤ total) × (total ≤ 255) ⌝ }
+    ensures { λ r. ⌜ r ≡ partFacts (now (s .entry)) part total (partSpan f) lasting ⌝ }
 {
     Part {
-        number: f.part as u8,
-        total: f.total as u8,
-        urgency: codes::urgency_of(span_in(s, f.own[0])),
-        severity: codes::severity_of(span_in(s, f.own[class::SEVERITY - class::URGENCY])),
-        certainty: codes::certainty_of(span_in(s, f.own[class::CERTAINTY - class::URGENCY])),
+        number: part as u8,
+        total: total as u8,
+        urgency: values::urgency_at(code_in(s, list::URGENCY, f.part[0])),
+        severity: values::severity_at(code_in(
+            s,
+            list::SEVERITY,
+            f.part[class::SEVERITY - class::URGENCY],
+        )),
+        certainty: values::certainty_at(code_in(
+            s,
+            list::CERTAINTY,
+            f.part[class::CERTAINTY - class::URGENCY],
+        )),
         lasting: lasting,
     }
 }
 
 // The sheet with the facts of a part, or of none.
 fn sheet_with(s: &[u8], f: Facts, parts: Parts) -> CapSheet
-    ensures { λ r. ⌜ r ≡ sheetBy (now (s .entry)) f parts ⌝ }
+    ensures { λ r. ⌜ r ≡ sheetWith (now (s .entry)) (alertSpan f) parts ⌝ }
 {
-    let message = codes::message_of(span_in(s, f.head[class::MSG_TYPE - class::IDENTIFIER]));
-    let status = codes::status_of(span_in(s, f.head[class::STATUS - class::IDENTIFIER]));
-    let scope = codes::scope_of(span_in(s, f.head[class::SCOPE - class::IDENTIFIER]));
+    let message = values::message_at(code_in(
+        s,
+        list::MSG_TYPE,
+        f.alert[class::MSG_TYPE - class::IDENTIFIER],
+    ));
+    let status = values::status_at(code_in(
+        s,
+        list::STATUS,
+        f.alert[class::STATUS - class::IDENTIFIER],
+    ));
+    let scope = values::scope_at(code_in(
+        s,
+        list::SCOPE,
+        f.alert[class::SCOPE - class::IDENTIFIER],
+    ));
     let facts = CapFacts {
         message: message,
         status: status,
         scope: scope,
         parts: parts,
     };
-    CapSheet::Sheet(facts, f.head[class::SENDER - class::IDENTIFIER], f.head[0])
+    CapSheet::Sheet(
+        facts,
+        f.alert[class::SENDER - class::IDENTIFIER],
+        f.alert[0],
+    )
 }
 
-// The sheet of the part asked for.
-pub fn sheet_of_part(s: &[u8], f: Facts) -> CapSheet
-    requires { ⌜ f .total ≤ 255 ⌝ }
-    ensures { λ r. ⌜ r ≡ sheetOfFacts (now (s .entry)) f ⌝ }
+// The sheet of a part that is there, by how long it lasts.
+fn sheet_lasting(s: &[u8], part: usize, total: usize, f: Facts) -> CapSheet
+    requires { ⌜ (part ≤ total) × (total ≤ 255) ⌝ }
+    ensures { λ r. ⌜ r ≡ sheetLasting (now (s .entry)) part total (alertSpan f) (partSpan f) (lastsOf (now (s .entry)) (alertSpan f) (partSpan f)) ⌝ }
 {
-    let found = crate::look_up(f.part, f.total);
-    let Lookup::There(number) = found else {
-        return CapSheet::NotThere;
-    };
-    if number == 0 {
-        return sheet_with(s, f, Parts::Nothing);
-    }
     let lasts = lasts_of(s, f);
     let Lasts::Stated(lasting) = lasts else {
         return CapSheet::OutOfRange;
     };
-    sheet_with(s, f, Parts::One(part_of(s, f, lasting)))
+    sheet_with(s, f, Parts::OnePart(part_of(s, part, total, f, lasting)))
+}
+
+// The sheet of the part asked for.
+pub fn sheet_of_part(s: &[u8], part: usize, total: usize, f: Facts) -> CapSheet
+    requires { ⌜ total ≤ 255 ⌝ }
+    ensures { λ r. ⌜ r ≡ sheetOfPart (now (s .entry)) total (alertSpan f) (partSpan f) (lookUp part total) ⌝ }
+{
+    let found = crate::look_up(part, total);
+    let Lookup::There(number) = found else {
+        return CapSheet::NotThere;
+    };
+    if number == 0 {
+        return sheet_with(s, f, Parts::NoPart);
+    }
+    sheet_lasting(s, part, total, f)
 }

@@ -1,115 +1,75 @@
 // Where the texts of a sheet stand, gathered while the document is read.
 use crate::Facts;
+use crate::KEPT;
 use crate::Outcome;
 use crate::Reading;
 use document::Event;
 use document::Step;
 use schema::class;
 use sheet::Span;
-use xml::Prolog;
 ghost use mathlib.Core.Path.{_≡_};
-ghost use Prim.Native.Nat.{_<_};
-ghost use Rattle.document.specs.Elements.{gather};
-ghost use Rattle.document.specs.Documents.{elementsOf, begin, readFrom};
-ghost use Rattle.parts.specs.Gathering.{notedHead, notedOwn, notedStart, noted, noFacts, refusedWith, readingFrom, readingOf};
+ghost use mathlib.Core.Bool.{cond};
+ghost use Rattle.document.specs.Elements.{fold};
+ghost use Rattle.document.specs.Documents.{elementsOf};
+ghost use Rattle.parts.specs.Gathering.{stored, noted, noFacts, refusedWith, readingOf};
 
 // Nothing gathered yet.
-fn no_facts(part: usize) -> Facts
-    ensures { λ r. ⌜ r ≡ noFacts part ⌝ }
+fn no_facts() -> Facts
+    ensures { λ r. ⌜ r ≡ noFacts ⌝ }
 {
     let nowhere = Span { start: 0, len: 0 };
     Facts {
-        part: part,
-        total: 0,
-        head: [nowhere; 7],
-        own: [nowhere; 7],
+        alert: [nowhere; KEPT],
+        part: [nowhere; KEPT],
     }
 }
 
-// A text of the alert itself.
-fn note_head(f: Facts, class: usize, span: Span) -> Facts
-    ensures { λ r. ⌜ r ≡ notedHead f class span ⌝ }
+// The spans of the classes from the first one on; where they are asked for, with that of a class put in.
+fn store(asked: bool, first: usize, class: usize, span: Span, spans: [Span; KEPT]) -> [Span; KEPT]
+    ensures { λ r. ⌜ r ≡ cond asked (stored first class span spans) spans ⌝ }
 {
-    let mut next = f;
-    if (f.total == 0) & (class::IDENTIFIER <= class) & (class < class::IDENTIFIER + 7) {
-        next.head[class - class::IDENTIFIER] = span;
+    if asked & (first <= class) {
+        let i = class - first;
+        if i < KEPT {
+            let mut next = spans;
+            next[i] = span;
+            return next;
+        }
     }
-    next
+    spans
 }
 
-// A text of the part asked for.
-fn note_own(f: Facts, class: usize, span: Span) -> Facts
-    ensures { λ r. ⌜ r ≡ notedOwn f class span ⌝ }
-{
-    let mut next = f;
-    if (f.total == f.part) & (class::URGENCY <= class) & (class < class::URGENCY + 7) {
-        next.own[class - class::URGENCY] = span;
-    }
-    next
-}
-
-// A container's start.
-fn note_start(f: Facts, class: usize) -> Facts
-    requires { ⌜ f .total < 9223372036854775808 ⌝ }
-    ensures { λ r. ⌜ r ≡ notedStart f class ⌝ }
-{
-    let mut next = f;
-    next.total = f.total + (class == class::INFO) as usize;
-    next
-}
-
-// What a construct tells.
-fn note(s: &[u8], f: Facts, event: Event) -> Facts
-    requires { ⌜ f .total < 9223372036854775808 ⌝ }
-    ensures { λ r. ⌜ r ≡ gather noted f (elementsOf (now (s .entry)) event) ⌝ }
+// What an event adds for a part, where some infos have started.
+fn note(s: &[u8], part: usize, infos: usize, f: Facts, event: Event) -> Facts
+    ensures { λ r. ⌜ r ≡ fold (noted part infos) f (elementsOf (now (s .entry)) event) ⌝ }
 {
     match event {
         Event::Silent => f,
-        Event::Opened(class, place) => note_start(f, class),
+        Event::Opened(class, place) => f,
         Event::Text(class, from, until) => {
+            let len = text::part(s, from, until).len();
             let span = Span {
                 start: from,
-                len: text::part(s, from, until).len(),
+                len: len,
             };
-            note_own(note_head(f, class, span), class, span)
+            let of_alert = f.alert;
+            let of_part = f.part;
+            Facts {
+                alert: store(infos == 0, class::IDENTIFIER, class, span, of_alert),
+                part: store(infos == part, class::URGENCY, class, span, of_part),
+            }
         }
         Event::Closed(class) => f,
     }
 }
 
 // The reading of a refused document.
-fn refused(part: usize, number: u8, place: usize) -> Reading
-    ensures { λ r. ⌜ r ≡ refusedWith part number place ⌝ }
+fn refused(number: u8, place: usize) -> Reading
+    ensures { λ r. ⌜ r ≡ refusedWith number place ⌝ }
 {
     Reading {
         outcome: Outcome::Refused(number, place),
-        facts: no_facts(part),
-    }
-}
-
-// Reads the constructs from a place on.
-fn read_from(s: &[u8], part: usize, at: usize) -> Reading
-    ensures { λ r. ⌜ r ≡ readingFrom part (noFacts part) (readFrom (now (s .entry)) (begin at)) ⌝ }
-{
-    let mut m = document::begin(at);
-    let mut f = no_facts(part);
-    loop {
-        let step = document::constructs::take_step(s, m);
-        match step {
-            Step::Next(next, event) => {
-                f = note(s, f, event);
-                m = next;
-            }
-            Step::Done => {
-                return Reading {
-                    outcome: Outcome::Accepted,
-                    facts: f,
-                };
-            }
-            Step::Refused(number, place) => {
-                return refused(part, number, place);
-            }
-        }
+        facts: no_facts(),
     }
 }
 
@@ -117,12 +77,25 @@ fn read_from(s: &[u8], part: usize, at: usize) -> Reading
 pub fn read_facts(s: &[u8], part: usize) -> Reading
     ensures { λ r. ⌜ r ≡ readingOf part (now (s .entry)) ⌝ }
 {
-    if 65_536 < s.len() {
-        return refused(part, 14, 0);
-    }
-    let prolog = xml::opening::read_prolog(s);
-    match prolog {
-        Prolog::Behind(at) => read_from(s, part, at),
-        Prolog::Fault(place) => refused(part, 15, place),
+    let mut step = document::first_step(s);
+    let mut infos = 0;
+    let mut f = no_facts();
+    loop {
+        match step {
+            Step::Next(m, event) => {
+                infos = m.infos;
+                f = note(s, part, infos, f, event);
+                step = document::constructs::take_step(s, m);
+            }
+            Step::Done => {
+                return Reading {
+                    outcome: Outcome::Accepted(infos),
+                    facts: f,
+                };
+            }
+            Step::Refused(number, place) => {
+                return refused(number, place);
+            }
+        }
     }
 }

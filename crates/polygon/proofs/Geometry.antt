@@ -8,7 +8,7 @@ use mir.Syntax.{w32}
 use Rattle.text.specs.Logic.{and-assoc}
 use Rattle.integers.specs.Bits.{read, read-given-32}
 use Rattle.coordinates.specs.declared.Place.{Place}
-use Rattle.polygon.specs.declared.edges.Edge.{Edge}
+use Rattle.polygon.specs.declared.edges.Tally.{Tally}
 use Rattle.polygon.specs.Polygon.{same, samePlace, between, eastOf, northOf, onEdge, crosses}
 use Rattle.polygon.specs.Edges.{inBox, crossedBy, edgeOf}
 use Rattle.polygon.proofs.Signs.{same-is}
@@ -31,9 +31,9 @@ module _ (a b p : Place) where
   box-is s t es et h₁ h₂ h₃ h₄ h₅ h₆ =
       rw (es, et, read-given-32 (a .lat) h₁, read-given-32 (b .lat) h₂, read-given-32 (p .lat) h₃, read-given-32 (a .lon) h₄, read-given-32 (b .lon) h₅, read-given-32 (p .lon) h₆)
 
-  pub judged : (u v : ℤ) (less more box crossed : Bool) → u ≡ eastOf a b p → v ≡ northOf a b p → less ≡ ltZ u v → more ≡ ltZ v u → box ≡ inBox a b p → crossed ≡ crossedBy (read w32 (a .lat)) (read w32 (b .lat)) (read w32 (p .lat)) less more → Low (a .lat) → Low (b .lat) → Low (p .lat) → _≡_ {A = Edge} (record { on = not less && not more && box; crossed = crossed }) (edgeOf a b p)
+  pub counted : (u v : ℤ) (less more box crossed : Bool) → u ≡ eastOf a b p → v ≡ northOf a b p → less ≡ ltZ u v → more ≡ ltZ v u → box ≡ inBox a b p → crossed ≡ crossedBy (read w32 (a .lat)) (read w32 (b .lat)) (read w32 (p .lat)) less more → Low (a .lat) → Low (b .lat) → Low (p .lat) → _≡_ {A = Tally} (record { on = not less && not more && box; crossed = crossed }) (edgeOf a b p)
   unfolding onEdge crosses
-  judged u v less more box crossed eu ev el em eb ec ha hb hp =
+  counted u v less more box crossed eu ev el em eb ec ha hb hp =
       let ec′ : crossed ≡ crossedBy (a .lat) (b .lat) (p .lat) less more = ec ∙ rw (read-given-32 (a .lat) ha, read-given-32 (b .lat) hb, read-given-32 (p .lat) hp) in
       rw (ec′, eb, el, em, eu, ev, same-is (eastOf a b p) (northOf a b p), and-assoc (not (ltZ (eastOf a b p) (northOf a b p)) && not (ltZ (northOf a b p) (eastOf a b p))) (between (a .lat) (b .lat) (p .lat)) (between (a .lon) (b .lon) (p .lon)))
 

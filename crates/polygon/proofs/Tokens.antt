@@ -1,51 +1,42 @@
 -- The next pair of a text: how it is read, and what it says of the text's tokens.
 use mathlib.Core.Path.{_≡_, refl, sym, ap, _∙_, subst}
-use mathlib.Core.Bool.{true, false, false≢true}
+use mathlib.Core.Bool.{Bool, true, false, not}
 use mathlib.Core.List.{List, [], _∷_}
 use mathlib.Core.Logic.{⊎-elim}
-use Prim.Native.Nat.{ℕ, _≤_, _<_}
+use Prim.Native.Nat.{ℕ, _+_, _-_, _≤_, _<_}
 use native.Mathlib.Omega.{arith}
-use borrow.Author.Tests.{leb-true, leb-false, le-leb, lt-leb, not-true, not-false}
+use borrow.Author.Tests.{leb-true, leb-false, le-leb, lt-leb}
 use lib.Dec.{leb}
 use lib.ListN.{length, getD, drop, drop-of-length-le, length-drop}
-use lib.Seq.{drop-cons, drop-drop}
-use Rattle.text.specs.Logic.{by-test, cond-cases}
+use lib.Seq.{drop-drop}
+use Rattle.text.specs.Logic.{cond-cases}
 use Rattle.text.specs.Bytes.{isSpace, spaces}
 use Rattle.text.specs.Tokens.{onToken, tokens, tokenLength}
+use Rattle.text.proofs.Runs.{drop-next}
 use Rattle.text.proofs.Laws.{token-within, tokens-space, token-or-end, tokens-next, token-some}
 use Rattle.coordinates.specs.declared.Place.{Place}
 use Rattle.coordinates.specs.declared.Pair.{Pair}
 use Rattle.coordinates.specs.declared.Pair.the-variants as pair
 use Rattle.coordinates.specs.declared.LeadingPair.the-variants as leading
-use Rattle.coordinates.specs.Place.{pairOf, leadingPair}
-use Rattle.coordinates.proofs.Tokens.{token-led, token-not-led}
+use Rattle.coordinates.specs.Place.{pairOf, leadingPair, standingAt}
+use Rattle.coordinates.proofs.Leading.{drop-after}
+use Rattle.coordinates.proofs.Readers.{stands-none, stands-at}
+use Rattle.coordinates.proofs.Tokens.{pair-end, pair-whole, pair-part, pair-none}
 use Rattle.polygon.specs.declared.pairs.Next.{Next}
 use Rattle.polygon.specs.declared.pairs.Next.the-variants as next
-use Rattle.polygon.specs.Next.{startOf, endOf, tokenAt, endingAt, endedBy, nextOf}
+use Rattle.polygon.specs.Next.{startOf, endOf, tokenAt, endingAt, nextOf}
 
 -- ---- the reading
 
--- behind a pair that leads a text: by the place e of the text, and by what stands there
-module _ (p : Place) (l : List ℕ) (e : ℕ) where
-  pub ended-by-space : e < length l → isSpace (getD l e 0) ≡ true → next.Pair p e ≡ endedBy p e (drop e l)
-  ended-by-space h t = rw (drop-cons l e 0 h, t)
-
-  pub ended-by-end : length l ≤ e → next.Pair p e ≡ endedBy p e (drop e l)
-  ended-by-end h = rw (drop-of-length-le l h)
-
-  pub not-ended : e < length l → isSpace (getD l e 0) ≡ false → next.Fault ≡ endedBy p e (drop e l)
-  not-ended h t = rw (drop-cons l e 0 h, t)
-
-module _ (p : Place) (e : ℕ) where
-  ended-whole : (r : List ℕ) → onToken r ≡ false → endedBy p e r ≡ next.Pair p e
+-- whether a token goes on at a place, by the byte there
+module _ (l : List ℕ) (i : ℕ) where
+  pub on-at : {t : Bool} → i < length l → t ≡ isSpace (getD l i 0) → not t ≡ onToken (drop i l)
   unfolding onToken
-  ended-whole [] t = refl
-  ended-whole (b ∷ r) t = rw (not-false (isSpace b) t)
+  on-at h e = rw (drop-next l i h, e)
 
-  ended-part : (r : List ℕ) → onToken r ≡ true → endedBy p e r ≡ next.Fault
+  pub on-past : length l ≤ i → false ≡ onToken (drop i l)
   unfolding onToken
-  ended-part [] t = absurd (false≢true t)
-  ended-part (b ∷ r) t = rw (not-true (isSpace b) t)
+  on-past h = rw (drop-of-length-le l h)
 
 module _ (l : List ℕ) (at i : ℕ) (start : i ≡ startOf l at) where
   pub read-end : length l ≤ i → next.End ≡ nextOf l at
@@ -53,17 +44,29 @@ module _ (l : List ℕ) (at i : ℕ) (start : i ≡ startOf l at) where
   read-end h = rw (← start, le-leb (length l) i h)
 
   module _ (h : i < length l) where
-    pub read-none : leadingPair i (drop i l) ≡ leading.Fault → next.Fault ≡ nextOf l at
+    pub read-none : standingAt i (leadingPair (drop i l)) ≡ leading.Fault → next.Fault ≡ nextOf l at
     unfolding nextOf
-    read-none q = rw (← start, lt-leb (length l) i h, token-not-led l i q)
+    read-none q = rw (← start, lt-leb (length l) i h, pair-none (drop i l) (stands-none i (leadingPair (drop i l)) q))
 
-    pub read-led : (p : Place) (e : ℕ) → leadingPair i (drop i l) ≡ leading.At p e → endedBy p e (drop e l) ≡ nextOf l at
-    unfolding nextOf
-    read-led p e q =
-        let k = token-led l i p e q in
-        by-test (onToken (drop e l))
-        (λ t. rw (ended-part p e (drop e l) t, ← start, lt-leb (length l) i h, k .part t))
-        (λ t. rw (ended-whole p e (drop e l) t, ← start, lt-leb (length l) i h, k .whole t, ← k .end t))
+    module _ (p : Place) (e : ℕ) (q : standingAt i (leadingPair (drop i l)) ≡ leading.At p e) where
+      led : leadingPair (drop i l) ≡ leading.At p (e - i)
+      led = stands-at i (leadingPair (drop i l)) p e q .0
+
+      after : i ≤ e
+      after = stands-at i (leadingPair (drop i l)) p e q .1
+
+      here : (t : Bool) → onToken (drop e l) ≡ t → onToken (drop (e - i) (drop i l)) ≡ t
+      here t f = rw (drop-after l i e after) f
+
+      pub read-part : onToken (drop e l) ≡ true → next.Fault ≡ nextOf l at
+      unfolding nextOf
+      read-part t = rw (← start, lt-leb (length l) i h, pair-part (drop i l) p (e - i) led (here true t))
+
+      pub read-whole : onToken (drop e l) ≡ false → next.Pair p e ≡ nextOf l at
+      unfolding nextOf
+      read-whole t =
+          let z : i + tokenLength (drop i l) ≡ e = omega (arith, after, pair-end (drop i l) p (e - i) led (here false t)) in
+          rw (← start, lt-leb (length l) i h, pair-whole (drop i l) p (e - i) led (here false t), z)
 
 -- ---- what it says
 

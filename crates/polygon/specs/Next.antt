@@ -1,12 +1,11 @@
 -- The next pair of a text from a place on, as it is read.
 use mathlib.Core.Bool.{cond}
-use mathlib.Core.List.{List, [], _∷_}
+use mathlib.Core.List.{List}
 use Prim.Native.Nat.{ℕ, _+_}
 use lib.Dec.{leb}
 use lib.ListN.{length, take, drop}
-use Rattle.text.specs.Bytes.{isSpace, spaces}
+use Rattle.text.specs.Bytes.{spaces}
 use Rattle.text.specs.Tokens.{tokenLength}
-use Rattle.coordinates.specs.declared.Place.{Place}
 use Rattle.coordinates.specs.declared.Pair.{Pair}
 use Rattle.coordinates.specs.declared.Pair.the-variants as pair
 use Rattle.coordinates.specs.Place.{pairOf}
@@ -28,11 +27,6 @@ tokenAt l i = take (tokenLength (drop i l)) (drop i l)
 abbrev pub endingAt : ℕ → Pair → Next
 endingAt e (pair.At p) = next.Pair p e
 endingAt e pair.Fault = next.Fault
-
--- a pair that leads a text and ends at e, where l follows: white space or the text's end must
-abbrev pub endedBy : Place → ℕ → List ℕ → Next
-endedBy p e [] = next.Pair p e
-endedBy p e (b ∷ l) = cond (isSpace b) (next.Pair p e) next.Fault
 
 unfoldable pub nextOf : List ℕ → ℕ → Next
 nextOf l at =

@@ -5,7 +5,7 @@ ghost use lib.IntN.{_-ℤ_, _*ℤ_};
 ghost use lib.Signed.{ltZ};
 ghost use Rattle.integers.specs.Magnitude.{lessBy};
 ghost use Rattle.polygon.specs.Polygon.{between, eastOf, northOf};
-ghost use Rattle.polygon.specs.Edges.{valueOf, inBox, crossedBy, edgeOf, plusOf};
+ghost use Rattle.polygon.specs.Edges.{valueOf, inBox, crossedBy, edgeOf, plusOf, tallied};
 
 // A product by its sign and magnitude.
 struct Product {
@@ -14,7 +14,7 @@ struct Product {
 }
 
 // What edges say of a place: it lies on one of them, and an odd number of them cross east of it.
-pub struct Edge {
+pub struct Tally {
     pub on: bool,
     pub crossed: bool,
 }
@@ -81,7 +81,7 @@ fn is_crossed(a: i32, b: i32, z: i32, less: bool, more: bool) -> bool
 }
 
 // What the edge from a to b says of the place p.
-pub fn judge(a: Place, b: Place, p: Place) -> Edge
+fn judge(a: Place, b: Place, p: Place) -> Tally
     ensures { λ r. ⌜ r ≡ edgeOf a b p ⌝ }
 {
     let east = east_of(a, b, p);
@@ -90,14 +90,24 @@ pub fn judge(a: Place, b: Place, p: Place) -> Edge
     let more = is_less(north, east);
     let on = !less & !more & in_box(a, b, p);
     let crossed = is_crossed(a.lat, b.lat, p.lat, less, more);
-    Edge { on, crossed }
+    Tally { on, crossed }
 }
 
 // What edges a and edges b say together: on either of them, and an odd number of crossings.
-pub fn plus(a: Edge, b: Edge) -> Edge
+fn plus(a: Tally, b: Tally) -> Tally
     ensures { λ r. ⌜ r ≡ plusOf a b ⌝ }
 {
     let on = a.on | b.on;
     let crossed = a.crossed != b.crossed;
-    Edge { on, crossed }
+    Tally { on, crossed }
+}
+
+// The sum of what edges say of the place p, with the edge from a to b; the same sum where no edge is judged.
+pub fn add_edge(counted: bool, sum: Tally, a: Place, b: Place, p: Place) -> Tally
+    ensures { λ r. ⌜ r ≡ tallied counted p sum a b ⌝ }
+{
+    if !counted {
+        return sum;
+    }
+    plus(sum, judge(a, b, p))
 }

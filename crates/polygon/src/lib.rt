@@ -3,40 +3,23 @@ use coordinates::Inclusion;
 use coordinates::Place;
 ghost use mathlib.Core.Path.{_≡_};
 ghost use Rattle.polygon.specs.Polygon.{same, samePlace, isPolygon, polygonHolds};
-ghost use Rattle.polygon.specs.Ring.{closes, verdictOf};
+ghost use Rattle.polygon.specs.Ring.{closes, verdictOf, answerOf};
 
 mod edges;
 mod pairs;
 
-use edges::Edge;
+use edges::Tally;
 use pairs::Next;
 
-// Whether a text is a polygon: at least 4 pairs, the last equal to the first. Each pair takes a byte, so that their count fits.
+// Whether a text is a polygon: at least 4 pairs, the last equal to the first.
 pub fn is_polygon(text: &[u8]) -> bool
     ensures { λ r. ⌜ r ≡ isPolygon (now (text .entry)) ⌝ }
 {
-    let head = pairs::next_pair(text, 0);
-    let Next::Pair(first, start) = head else {
-        return false;
-    };
-    let mut last = first;
-    let mut count: usize = 1;
-    let mut at = start;
-    loop {
-        let next = pairs::next_pair(text, at);
-        match next {
-            Next::Pair(vertex, end) => {
-                last = vertex;
-                count += 1;
-                at = end;
-            }
-            Next::End => {
-                return closes(count, first, last);
-            }
-            Next::Fault => {
-                return false;
-            }
-        }
+    let answer = walk(text, Place { lat: 0, lon: 0 }, false);
+    match answer {
+        Inclusion::Inside => true,
+        Inclusion::Outside => true,
+        Inclusion::Fault => false,
     }
 }
 
@@ -44,13 +27,20 @@ pub fn is_polygon(text: &[u8]) -> bool
 pub fn polygon_holds(text: &[u8], place: Place) -> Inclusion
     ensures { λ r. ⌜ r ≡ polygonHolds (now (text .entry)) place ⌝ }
 {
+    walk(text, place, true)
+}
+
+// The walk from pair to pair, with or without judging the edges. Each pair takes a byte, so that their count fits.
+fn walk(text: &[u8], place: Place, counted: bool) -> Inclusion
+    ensures { λ r. ⌜ r ≡ answerOf counted (now (text .entry)) place ⌝ }
+{
     let head = pairs::next_pair(text, 0);
     let Next::Pair(first, start) = head else {
         return Inclusion::Fault;
     };
     let mut last = first;
     let mut count: usize = 1;
-    let mut sum = Edge {
+    let mut sum = Tally {
         on: false,
         crossed: false,
     };
@@ -59,8 +49,7 @@ pub fn polygon_holds(text: &[u8], place: Place) -> Inclusion
         let next = pairs::next_pair(text, at);
         match next {
             Next::Pair(vertex, end) => {
-                let edge = edges::judge(last, vertex, place);
-                sum = edges::plus(sum, edge);
+                sum = edges::add_edge(counted, sum, last, vertex, place);
                 last = vertex;
                 count += 1;
                 at = end;
@@ -97,7 +86,7 @@ fn closes(count: usize, first: Place, last: Place) -> bool
 }
 
 // The answer, from whether there is a polygon and what its edges say together.
-fn verdict(polygon: bool, sum: Edge) -> Inclusion
+fn verdict(polygon: bool, sum: Tally) -> Inclusion
     ensures { λ r. ⌜ r ≡ verdictOf polygon sum ⌝ }
 {
     if !polygon {

@@ -3,28 +3,27 @@ use coordinates::LeadingPair;
 use coordinates::Place;
 ghost use mathlib.Core.Path.{_≡_};
 ghost use lib.ListN.{drop};
-ghost use Rattle.polygon.specs.Next.{endedBy, nextOf};
+ghost use Rattle.text.specs.Tokens.{onToken};
+ghost use Rattle.polygon.specs.Next.{nextOf};
 
-// The next pair of a text and the place behind it; or that the text ends, or that no pair stands there.
+// The next pair of a text and the place after it; or that the text ends, or that no pair stands there.
 pub enum Next {
     Pair(Place, usize),
     End,
     Fault,
 }
 
-// A pair that ends at a place: the text must end there, or white space follow.
-fn ended(s: &[u8], place: Place, end: usize) -> Next
-    ensures { λ r. ⌜ r ≡ endedBy place end (drop end (now (s .entry))) ⌝ }
+// Whether a token goes on at a place.
+fn on_token(s: &[u8], at: usize) -> bool
+    ensures { λ r. ⌜ r ≡ onToken (drop at (now (s .entry))) ⌝ }
 {
-    if end < s.len() {
-        if !text::is_space(s[end]) {
-            return Next::Fault;
-        }
+    if at < s.len() {
+        return !text::is_space(s[at]);
     }
-    Next::Pair(place, end)
+    false
 }
 
-// The pair from `at` on, behind white space; or that the text ends there, or that no pair stands there.
+// The pair from `at` on, after white space, which must follow it too; or that the text ends there, or that no pair stands there.
 pub fn next_pair(s: &[u8], at: usize) -> Next
     ensures { λ r. ⌜ r ≡ nextOf (now (s .entry)) at ⌝ }
 {
@@ -33,8 +32,11 @@ pub fn next_pair(s: &[u8], at: usize) -> Next
         return Next::End;
     }
     let pair = coordinates::leading_pair(s, start);
-    match pair {
-        LeadingPair::At(place, end) => ended(s, place, end),
-        LeadingPair::Fault => Next::Fault,
+    let LeadingPair::At(place, end) = pair else {
+        return Next::Fault;
+    };
+    if on_token(s, end) {
+        return Next::Fault;
     }
+    Next::Pair(place, end)
 }

@@ -1,11 +1,1 @@
-pub mod Copying
-pub mod Table
-pub mod Room
-pub mod Units
-pub mod Hash
-pub mod Letters
-pub mod Groups
-pub mod Turns
-pub mod CodeTable
 pub mod Answer
-pub mod Pieces

@@ -1,21 +1,24 @@
-// Writes a mixed list of sheets one behind the other into one buffer, refused ones among them, and reads the text back.
+// Writes a mixed list of sheets one after the other into one buffer, refused ones among them, and reads the text back.
 // tests/readback.py writes the stored output from the independent model.
+use codes::Certainty;
+use codes::MessageType;
+use codes::Scope;
+use codes::Severity;
+use codes::Status;
+use codes::Urgency;
 use libc::STDOUT_FILENO;
 use sheet::CapFacts;
-use sheet::Certainty;
 use sheet::Found;
 use sheet::Lasting;
-use sheet::MessageType;
 use sheet::Part;
 use sheet::Parts;
 use sheet::ReadBack;
-use sheet::Scope;
-use sheet::Severity;
 use sheet::Span;
-use sheet::Status;
-use sheet::Urgency;
 use sheet::WarnFacts;
-use sheet::Wrote;
+use sheet::WriteSheet;
+
+// Room for any sentence.
+const SENTENCE_ROOM: usize = 1024;
 
 // The buffer's length: of the last three sheets only the second fits, and just so.
 const ROOM: usize = 1020;
@@ -29,19 +32,19 @@ fn print_number(n: usize) {
 }
 
 // Prints the answer to a write, and gives the start of the next.
-fn next_start(start: usize, answer: Wrote) -> usize {
+fn next_start(start: usize, answer: WriteSheet) -> usize {
     match answer {
-        Wrote::End(end) => {
+        WriteSheet::End(end) => {
             print(b"end ");
             print_number(end);
             print(b"\n");
             end
         }
-        Wrote::OutOfRange => {
+        WriteSheet::OutOfRange => {
             print(b"refused 23 at 0\n");
             start
         }
-        Wrote::NoRoom => {
+        WriteSheet::NoRoom => {
             print(b"refused 13 at 0\n");
             start
         }
@@ -58,7 +61,7 @@ fn alert(parts: Parts) -> CapFacts {
 }
 
 fn part(number: u8, total: u8, lasting: Lasting) -> Parts {
-    Parts::One(Part {
+    Parts::OnePart(Part {
         number,
         total,
         urgency: Urgency::Immediate,
@@ -98,7 +101,7 @@ fn write_samples(buffer: &mut [u8], start: usize) -> usize {
         message: MessageType::Cancel,
         status: Status::Actual,
         scope: Scope::Public,
-        parts: Parts::Nothing,
+        parts: Parts::NoPart,
     };
     let b = next_start(
         a,
@@ -163,11 +166,11 @@ fn write_bad_names(buffer: &mut [u8], start: usize) -> usize {
     );
     let b = next_start(
         a,
-        readback::write_cap(buffer, a, alert(Parts::Nothing), b"", b"A"),
+        readback::write_cap(buffer, a, alert(Parts::NoPart), b"", b"A"),
     );
     next_start(
         b,
-        readback::write_cap(buffer, b, alert(Parts::Nothing), b"a]]>", b"A"),
+        readback::write_cap(buffer, b, alert(Parts::NoPart), b"a]]>", b"A"),
     )
 }
 
@@ -216,7 +219,7 @@ fn part_of(text: &[u8], span: Span) -> &[u8] {
 
 // The sentence of a sheet that was found in a text, written anew.
 fn print_found(text: &[u8], found: Found) {
-    let mut own = [0u8; 1024];
+    let mut own = [0u8; SENTENCE_ROOM];
     match found {
         Found::Cap(facts, sender, name) => {
             let answer = readback::write_cap(
@@ -235,8 +238,8 @@ fn print_found(text: &[u8], found: Found) {
     }
 }
 
-fn print_written(own: &[u8], answer: Wrote) {
-    let Wrote::End(end) = answer else {
+fn print_written(own: &[u8], answer: WriteSheet) {
+    let WriteSheet::End(end) = answer else {
         print(b"not written\n");
         return;
     };
@@ -257,9 +260,9 @@ fn print_read(text: &[u8], k: usize) {
             print(b": ");
             print_found(text, found);
         }
-        ReadBack::NotReadBack(place) => {
+        ReadBack::NotReadBack(offset) => {
             print(b"refused 23 at ");
-            print_number(place);
+            print_number(offset);
             print(b"\n");
         }
         ReadBack::NotThere => print(b"refused 21 at 0\n"),

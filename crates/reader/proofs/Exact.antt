@@ -8,21 +8,21 @@ use native.Mathlib.Omega.{arith}
 use lib.ListN.{length, take, drop}
 use lib.Seq.{take-at}
 use Rattle.text.specs.Ascii.{ascii}
-use Rattle.text.specs.Buffer.{written}
-use Rattle.text.specs.Logic.{by-test}
+use Rattle.buffer.specs.Writing.{written}
+use Rattle.text.specs.Logic.{by-test, clash}
 use Rattle.sheet.specs.declared.CapFacts.{CapFacts}
 use Rattle.sheet.specs.declared.WarnFacts.{WarnFacts}
 use Rattle.sheet.specs.declared.Span.{Span}
 use Rattle.sheet.specs.declared.Found.{Found}
 use Rattle.sheet.specs.declared.Found.the-variants as found
 use Rattle.sheet.specs.declared.Line.the-variants as line
-use Rattle.sheet.specs.declared.Wrote.{Wrote}
-use Rattle.sheet.specs.declared.Wrote.the-variants.{End, OutOfRange, NoRoom}
+use Rattle.sheet.specs.declared.WriteSheet.{WriteSheet}
+use Rattle.sheet.specs.declared.WriteSheet.the-variants.{End, OutOfRange, NoRoom}
 use Rattle.text.specs.Parts.{startsWith}
 use Rattle.sheet.specs.Sheet.{Sheet, cap, warn, inRange}
 use Rattle.sheet.specs.Sentence.{sentence}
 use Rattle.sheet.specs.Reading.{warnOf, foundAt, spanIn, sheetIn, sheetOf, isLine, lineAt}
-use Rattle.sheet.specs.Answers.{wrote, after}
+use Rattle.sheet.specs.Answers.{writeSheet, after}
 use Rattle.sheet.proofs.Lengths.{sentence-le}
 use Rattle.sheet.proofs.ReadSentence.{found-at}
 use Rattle.sheet.proofs.WriteOne.{length-written, refuse-range, write-end}
@@ -42,10 +42,10 @@ module _ (i : ℕ) (l : List ℕ) (r : Bool) (e : r ≡ startsWith (ascii "warn"
 -- ---- a sentence written over the front of a buffer of 1,024 bytes, which has room for every sentence
 
 module _ (d : List ℕ) (x : Sheet) (big : 1_024 ≤ length d) where
-  wrote-in : inRange x ≡ true → (wrote d 0 x ≡ End (0 + length (sentence x))) × (after d 0 x ≡ written d 0 (sentence x))
+  wrote-in : inRange x ≡ true → (writeSheet d 0 x ≡ End (0 + length (sentence x))) × (after d 0 x ≡ written d 0 (sentence x))
   wrote-in r = write-end d 0 x r (omega (arith, sentence-le x r))
 
-  wrote-out : inRange x ≡ false → wrote d 0 x ≡ OutOfRange
+  wrote-out : inRange x ≡ false → writeSheet d 0 x ≡ OutOfRange
   wrote-out r = refuse-range d 0 x r .0
 
   record Ended (n : ℕ) : Type 0 where
@@ -58,33 +58,33 @@ module _ (d : List ℕ) (x : Sheet) (big : 1_024 ≤ length d) where
   unfolding written
   written-front = take-at (sentence x) (drop (0 + length (sentence x)) d) (length (sentence x)) refl
 
-  ended : (n : ℕ) → wrote d 0 x ≡ End n → inRange x ≡ true → Ended n
+  ended : (n : ℕ) → writeSheet d 0 x ≡ End n → inRange x ≡ true → Ended n
   ended n e r =
       let w = wrote-in r in
       let s : n ≡ length (sentence x) = cc (w .0, zero-add (length (sentence x))) in
       let h = length-written d 0 (sentence x) (omega (arith, sentence-le x r)) in
       record { range = r; size = s; room = rw (w .1, h, s) (omega (arith, sentence-le x r)); bytes = ap₂ take s (w .1) ∙ written-front }
 
-  wrote-end : (n : ℕ) → wrote d 0 x ≡ End n → Ended n
+  wrote-end : (n : ℕ) → writeSheet d 0 x ≡ End n → Ended n
   wrote-end n e =
       by-test (inRange x)
       (ended n e)
-      (λ r. absurd (let z : _≡_ {A = ℕ} 0 1 = cc (wrote-out r) in omega arith))
+      (λ r. clash (cc (wrote-out r)))
 
-  pub room-for : (n : ℕ) (b : List ℕ) → wrote d 0 x ≡ End n → b ≡ after d 0 x → n ≤ length b
+  pub room-for : (n : ℕ) (b : List ℕ) → writeSheet d 0 x ≡ End n → b ≡ after d 0 x → n ≤ length b
   room-for n b e w = rw w (wrote-end n e .room)
 
-  wrote-range : wrote d 0 x ≡ OutOfRange → inRange x ≡ false
+  wrote-range : writeSheet d 0 x ≡ OutOfRange → inRange x ≡ false
   wrote-range e =
       by-test (inRange x)
-      (λ r. absurd (let z : _≡_ {A = ℕ} 0 1 = cc (wrote-in r .0) in omega arith))
+      (λ r. clash (cc (wrote-in r .0)))
       (λ r. r)
 
-  wrote-room : wrote d 0 x ≡ NoRoom → ⊥
+  wrote-room : writeSheet d 0 x ≡ NoRoom → ⊥
   wrote-room e =
       by-test (inRange x)
-      (λ r. let z : _≡_ {A = ℕ} 0 1 = cc (wrote-in r .0) in omega arith)
-      (λ r. let z : _≡_ {A = ℕ} 0 1 = cc (wrote-out r) in omega arith)
+      (λ r. clash (cc (wrote-in r .0)))
+      (λ r. clash (cc (wrote-out r)))
 
 -- ---- the line at a place, from what was found there
 
@@ -94,7 +94,7 @@ module _ (t : List ℕ) (at : ℕ) (f : Found) (q : f ≡ foundAt at (drop at t)
 
   module _ (d : List ℕ) (big : 1_024 ≤ length d) where
     -- n bytes of b were written, and r says whether they lead the text there
-    module _ (n : ℕ) (e : wrote d 0 (sheetIn t f) ≡ End n) (b : List ℕ) (w : b ≡ after d 0 (sheetIn t f)) (r : Bool) (s : r ≡ startsWith (take n b) (drop at t)) where
+    module _ (n : ℕ) (e : writeSheet d 0 (sheetIn t f) ≡ End n) (b : List ℕ) (w : b ≡ after d 0 (sheetIn t f)) (r : Bool) (s : r ≡ startsWith (take n b) (drop at t)) where
       end-is : Ended d (sheetIn t f) big n
       end-is = wrote-end d (sheetIn t f) big n e
 
@@ -112,11 +112,11 @@ module _ (t : List ℕ) (at : ℕ) (f : Found) (q : f ≡ foundAt at (drop at t)
       unfolding lineAt
       line-differs h = rw (lineAt, line-test ∙ h)
 
-    pub line-range : wrote d 0 (sheetIn t f) ≡ OutOfRange → line.Other ≡ lineAt at (drop at t)
+    pub line-range : writeSheet d 0 (sheetIn t f) ≡ OutOfRange → line.Other ≡ lineAt at (drop at t)
     unfolding lineAt isLine
     line-range e = rw (lineAt, isLine, ← sheet-is, wrote-range d (sheetIn t f) big e)
 
-    pub line-room : wrote d 0 (sheetIn t f) ≡ NoRoom → line.Other ≡ lineAt at (drop at t)
+    pub line-room : writeSheet d 0 (sheetIn t f) ≡ NoRoom → line.Other ≡ lineAt at (drop at t)
     line-room e = absurd (wrote-room d (sheetIn t f) big e)
 
 -- ---- writing what was found
@@ -130,5 +130,5 @@ module _ (t : List ℕ) (g : Found) where
   unfolding sheetIn
   sheet-warn f e = sym (ap (sheetIn t) e)
 
-pub wrote-same : (d e : List ℕ) (r : Wrote) (x y : Sheet) → x ≡ y → (r ≡ wrote d 0 x) × (e ≡ after d 0 x) → (r ≡ wrote d 0 y) × (e ≡ after d 0 y)
-wrote-same d e r x y q p = (p .0 ∙ ap (wrote d 0) q, p .1 ∙ ap (after d 0) q)
+pub wrote-same : (d e : List ℕ) (r : WriteSheet) (x y : Sheet) → x ≡ y → (r ≡ writeSheet d 0 x) × (e ≡ after d 0 x) → (r ≡ writeSheet d 0 y) × (e ≡ after d 0 y)
+wrote-same d e r x y q p = (p .0 ∙ ap (writeSheet d 0) q, p .1 ∙ ap (after d 0) q)

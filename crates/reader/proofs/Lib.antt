@@ -1,7 +1,5 @@
 pub mod Words
-pub mod Choices
-pub mod Places
-pub mod CapSteps
-pub mod WarnSteps
+pub mod Quantity
+pub mod WarnFacts
 pub mod Exact
 pub mod Turns

@@ -1,18 +1,14 @@
--- A word, the bytes to the next comma, at a place of a text.
-use mathlib.Core.Path.{_≡_, ap}
-use mathlib.Core.List.{List, [], _∷_}
-use Prim.Native.Nat.{ℕ, _+_, _-_, _≤_, _<_, zero-le, suc-le-suc}
+-- The word that leads a text, byte by byte.
+use mathlib.Core.Path.{_≡_}
+use mathlib.Core.List.{List}
+use Prim.Native.Nat.{ℕ, _+_, _-_, _≤_, _<_}
 use Prim.Native.Char.{code}
 use native.Mathlib.Numerals.{add-one}
 use native.Mathlib.Omega.{arith}
-use lib.Dec.{eqb}
 use lib.ListN.{length, getD, drop, drop-of-length-le}
 use lib.Seq.{drop-cons}
 use borrow.Author.Tests.{eq-eqb, ne-eqb}
-use Rattle.text.specs.Logic.{by-test}
-use Rattle.sheet.specs.declared.Span.{Span}
 use Rattle.sheet.specs.Reading.{wordLength}
-use Rattle.reader.specs.Pieces.{wordSpan}
 
 stop : (i : ℕ) → i + 0 ≡ i
 stop i = omega arith
@@ -29,12 +25,3 @@ module _ (t : List ℕ) (i : ℕ) where
   pub word-none : length t ≤ i → i + wordLength (drop i t) ≡ i
   unfolding wordLength
   word-none h = rw (drop-of-length-le t h) (stop i)
-
-pub word-le : (l : List ℕ) → wordLength l ≤ length l
-unfolding wordLength
-word-le [] = zero-le
-word-le (b ∷ l) = by-test (eqb b (code ",")) (λ e. rw e zero-le) (λ e. rw e (suc-le-suc (word-le l)))
-
--- the word from at on, which ends before e
-pub word-span : (at e : ℕ) (l : List ℕ) → e ≡ at + wordLength l → _≡_ {A = Span} (record { start = at; len = e - at }) (wordSpan at l)
-word-span at e l q = ap (λ (n : ℕ). record { start = at; len = n }) (omega arith)

@@ -1,26 +1,23 @@
-// CAP sentences, read loosely: literals are passed over by their length, and nothing is checked. So a place may lie past the end of
-// the text; each `requires` says by how much at most.
-use crate::codes::certainty_of;
-use crate::codes::message_of;
-use crate::codes::scope_of;
-use crate::codes::severity_of;
-use crate::codes::status_of;
-use crate::codes::urgency_of;
+// CAP sentences, read loosely: literals are passed over by their length, and nothing is checked.
+use crate::scan::after;
+use crate::scan::after_word;
+use crate::scan::code_in;
 use crate::scan::low_byte;
-use crate::scan::word_at;
-use crate::scan::word_behind;
-use readback::read_duration;
-use readback::read_number;
+use crate::scan::word_length;
+use codes::list;
+use codes::values;
 use sheet::CapFacts;
 use sheet::Found;
 use sheet::Lasting;
 use sheet::Part;
 use sheet::Parts;
-use sheet::span_in;
+use sheet::Span;
+use spoken::read_duration;
+use spoken::read_number;
 ghost use mathlib.Core.Path.{_≡_};
-ghost use Prim.Native.Nat.{_+_, _≤_};
+ghost use Prim.Native.Nat.{_+_, _≤_, _<_};
 ghost use lib.ListN.{length, drop};
-ghost use Rattle.sheet.specs.Reading.{lastingOf, partOf, partsOf};
+ghost use Rattle.sheet.specs.Reading.{lastingOf, partOf, partsOf, spanAt};
 ghost use Rattle.reader.specs.Pieces.{capAt};
 
 // The lengths of the literals.
@@ -38,63 +35,74 @@ const OF: usize = 3; // " of"
 
 const LASTS: usize = 7; // ", lasts"
 
-// How long a part lasts, from behind "lasts" on.
-fn lasting_at(t: &[u8], at: usize) -> Lasting
-    ensures { λ r. ⌜ r ≡ lastingOf (drop at (now (t .entry))) ⌝ }
+// How long a part lasts, from after "lasts" on.
+fn lasting_of(t: &[u8]) -> Lasting
+    ensures { λ r. ⌜ r ≡ lastingOf (now (t .entry)) ⌝ }
 {
-    if text::starts_at(t, at, b" no ") {
+    if text::starts_with(t, b" no ") {
         return Lasting::Unstated;
     }
-    let heard = read_duration(t, at);
-    Lasting::Seconds(heard.value)
+    let duration = read_duration(t, 0);
+    Lasting::Seconds(duration.value)
 }
 
 // A part, from ", part" on.
-fn part_at(t: &[u8], at: usize) -> Part
-    requires { ⌜ at ≤ length (now t) + 22 ⌝ }
-    ensures { λ r. ⌜ r ≡ partOf (drop at (now (t .entry))) ⌝ }
+fn part_of(t: &[u8]) -> Part
+    ensures { λ r. ⌜ r ≡ partOf (now (t .entry)) ⌝ }
 {
-    let number = read_number(t, at + PART);
-    let total = read_number(t, number.end + OF);
-    let urgency = word_at(t, total.end + NEXT);
-    let severity = word_behind(t, urgency, NEXT);
-    let certainty = word_behind(t, severity, NEXT);
+    let first = text::skip(t, PART);
+    let number = read_number(first, 0);
+    let second = after(first, number.end, OF);
+    let total = read_number(second, 0);
+    let urgency = after(second, total.end, NEXT);
+    let severity = after_word(urgency, NEXT);
+    let certainty = after_word(severity, NEXT);
     Part {
         number: low_byte(number.value),
         total: low_byte(total.value),
-        urgency: urgency_of(span_in(t, urgency)),
-        severity: severity_of(span_in(t, severity)),
-        certainty: certainty_of(span_in(t, certainty)),
-        lasting: lasting_at(t, certainty.start + certainty.len + LASTS),
+        urgency: values::urgency_at(code_in(list::URGENCY, urgency)),
+        severity: values::severity_at(code_in(list::SEVERITY, severity)),
+        certainty: values::certainty_at(code_in(list::CERTAINTY, certainty)),
+        lasting: lasting_of(after_word(certainty, LASTS)),
     }
 }
 
-// The part that a sentence tells of, from behind the name on.
-fn parts_at(t: &[u8], at: usize) -> Parts
-    requires { ⌜ at ≤ length (now t) + 22 ⌝ }
-    ensures { λ r. ⌜ r ≡ partsOf (drop at (now (t .entry))) ⌝ }
+// The part that a sentence tells of, from after the name on.
+fn parts_of(t: &[u8]) -> Parts
+    ensures { λ r. ⌜ r ≡ partsOf (now (t .entry)) ⌝ }
 {
-    if text::starts_at(t, at, b", part") {
-        return Parts::One(part_at(t, at));
+    if text::starts_with(t, b", part") {
+        return Parts::OnePart(part_of(t));
     }
-    Parts::Nothing
+    Parts::NoPart
+}
+
+// The leading word of the rest of a text, which stands at a place.
+fn span_at(at: usize, t: &[u8], rest: &[u8]) -> Span
+    requires { ⌜ (length (now rest) ≤ length (now t)) × (at + length (now t) < 0x1_0000_0000_0000_0000) ⌝ }
+    ensures { λ r. ⌜ r ≡ spanAt at (now (t .entry)) (now (rest .entry)) ⌝ }
+{
+    Span {
+        start: at + (t.len() - rest.len()),
+        len: word_length(rest),
+    }
 }
 
 // A CAP sentence from its start: its facts, and where its sender and its name stand.
 pub fn cap_at(t: &[u8], at: usize) -> Found
-    requires { ⌜ at ≤ length (now t) ⌝ }
     ensures { λ r. ⌜ r ≡ capAt at (drop at (now (t .entry))) ⌝ }
 {
-    let message = word_at(t, at + CAP);
-    let status = word_behind(t, message, NEXT);
-    let scope = word_behind(t, status, NEXT);
-    let sender = word_behind(t, scope, FROM);
-    let name = word_behind(t, sender, NAME);
+    let start = text::skip(t, at);
+    let message = text::skip(start, CAP);
+    let status = after_word(message, NEXT);
+    let scope = after_word(status, NEXT);
+    let sender = after_word(scope, FROM);
+    let name = after_word(sender, NAME);
     let facts = CapFacts {
-        message: message_of(span_in(t, message)),
-        status: status_of(span_in(t, status)),
-        scope: scope_of(span_in(t, scope)),
-        parts: parts_at(t, name.start + name.len),
+        message: values::message_at(code_in(list::MSG_TYPE, message)),
+        status: values::status_at(code_in(list::STATUS, status)),
+        scope: values::scope_at(code_in(list::SCOPE, scope)),
+        parts: parts_of(after_word(name, 0)),
     };
-    Found::Cap(facts, sender, name)
+    Found::Cap(facts, span_at(at, start, sender), span_at(at, start, name))
 }

@@ -1,33 +1,35 @@
 // What stands at a place of a text: a sheet as far as it can be read, and whether the text goes on with exactly that sheet's
 // sentence.
 use crate::cap::cap_at;
-use crate::warn::warn_at;
+use crate::warn::warn_of;
 use readback::write_cap;
 use readback::write_warn;
 use sheet::Found;
 use sheet::Line;
-use sheet::Wrote;
+use sheet::WriteSheet;
 use sheet::span_in;
 ghost use mathlib.Core.Path.{_≡_};
-ghost use Prim.Native.Nat.{_≤_};
-ghost use lib.ListN.{length, drop};
+ghost use lib.ListN.{drop};
 ghost use Rattle.sheet.specs.Reading.{foundAt, sheetIn, lineAt};
-ghost use Rattle.sheet.specs.Answers.{wrote, after};
+ghost use Rattle.sheet.specs.Answers.{writeSheet, after};
+
+// Room for any sentence.
+const SENTENCE_ROOM: usize = 1024;
 
 // What a text says from a place on, as far as it can be read.
 pub fn found_at(t: &[u8], at: usize) -> Found
-    requires { ⌜ at ≤ length (now t) ⌝ }
     ensures { λ r. ⌜ r ≡ foundAt at (drop at (now (t .entry))) ⌝ }
 {
-    if text::starts_at(t, at, b"warn") {
-        return Found::Warn(warn_at(t, at));
+    let start = text::skip(t, at);
+    if text::starts_with(start, b"warn") {
+        return Found::Warn(warn_of(start));
     }
     cap_at(t, at)
 }
 
 // Writes the sentence of a sheet that was found in a text over the front of a buffer.
-fn write_found(buffer: &mut [u8], t: &[u8], found: Found) -> Wrote
-    ensures { λ r. ⌜ (r ≡ wrote (now (buffer .entry)) 0 (sheetIn (now (t .entry)) found)) × (now (buffer .exit) ≡ after (now (buffer .entry)) 0 (sheetIn (now (t .entry)) found)) ⌝ }
+fn write_found(buffer: &mut [u8], t: &[u8], found: Found) -> WriteSheet
+    ensures { λ r. ⌜ (r ≡ writeSheet (now (buffer .entry)) 0 (sheetIn (now (t .entry)) found)) × (now (buffer .exit) ≡ after (now (buffer .entry)) 0 (sheetIn (now (t .entry)) found)) ⌝ }
 {
     match found {
         Found::Cap(facts, sender, name) => {
@@ -41,22 +43,21 @@ fn write_found(buffer: &mut [u8], t: &[u8], found: Found) -> Wrote
 
 // The line at a place: a read-back exactly where the sentence of what was read stands there. The array has room for every sentence.
 pub fn line_at(t: &[u8], at: usize) -> Line
-    requires { ⌜ at ≤ length (now t) ⌝ }
     ensures { λ r. ⌜ r ≡ lineAt at (drop at (now (t .entry))) ⌝ }
 {
     let found = found_at(t, at);
-    let mut own = [0u8; 1024];
+    let mut own = [0u8; SENTENCE_ROOM];
     match write_found(&mut own, t, found) {
-        Wrote::End(n) => {
+        WriteSheet::End(n) => {
             if text::starts_at(t, at, &own[..n]) {
                 return Line::Sentence(found, n);
             }
             return Line::Other;
         }
-        Wrote::OutOfRange => {
+        WriteSheet::OutOfRange => {
             return Line::Other;
         }
-        Wrote::NoRoom => {
+        WriteSheet::NoRoom => {
             return Line::Other;
         }
     }

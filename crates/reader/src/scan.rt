@@ -1,16 +1,15 @@
-// Words, literals and parts of a text. Any place may be named: past the end a text holds nothing.
-use sheet::Span;
+// What leads a text: a word, a code, and what stands after them. Past the end a text holds nothing.
+use codes::texts::small_code_of;
 ghost use mathlib.Core.Path.{_≡_};
-ghost use Prim.Native.Nat.{_+_, _≤_};
-ghost use lib.ListN.{length, drop};
-ghost use Rattle.sheet.specs.Reading.{wordLength, byteOf};
-ghost use Rattle.reader.specs.Pieces.{wordSpan};
+ghost use lib.ListN.{drop};
+ghost use Rattle.sheet.specs.Reading.{wordLength, afterWord, byteOf};
+ghost use Rattle.reader.specs.Pieces.{wordCode};
 
-// The first place from `at` on that holds a comma, or the end; `at` itself where it lies past the end.
-fn word_end(t: &[u8], at: usize) -> usize
-    ensures { λ r. ⌜ r ≡ at + wordLength (drop at (now (t .entry))) ⌝ }
+// How many bytes stand before the next comma, or the end.
+pub fn word_length(t: &[u8]) -> usize
+    ensures { λ r. ⌜ r ≡ wordLength (now (t .entry)) ⌝ }
 {
-    let mut i = at;
+    let mut i = 0;
     while i < t.len() {
         if t[i] == b',' {
             return i;
@@ -20,22 +19,25 @@ fn word_end(t: &[u8], at: usize) -> usize
     i
 }
 
-// The word at a place: the bytes to the next comma.
-pub fn word_at(t: &[u8], at: usize) -> Span
-    ensures { λ r. ⌜ r ≡ wordSpan at (drop at (now (t .entry))) ⌝ }
+// The number of the code that the leading word says in a list.
+pub fn code_in(list: usize, t: &[u8]) -> usize
+    ensures { λ r. ⌜ r ≡ wordCode list (now (t .entry)) ⌝ }
 {
-    Span {
-        start: at,
-        len: word_end(t, at) - at,
-    }
+    small_code_of(list, text::first(t, word_length(t)))
 }
 
-// The word k bytes behind another, which may lie a little past the end of the text.
-pub fn word_behind(t: &[u8], word: Span, k: usize) -> Span
-    requires { ⌜ word .start + word .len + k ≤ length (now t) + 64 ⌝ }
-    ensures { λ r. ⌜ r ≡ wordSpan (word .start + word .len + k) (drop (word .start + word .len + k) (now (t .entry))) ⌝ }
+// What stands after n bytes and k more.
+pub fn after(t: &[u8], n: usize, k: usize) -> &[u8]
+    ensures { λ r. ⌜ now r ≡ drop k (drop n (now (t .entry))) ⌝ }
 {
-    word_at(t, word.start + word.len + k)
+    text::skip(text::skip(t, n), k)
+}
+
+// What stands after the leading word and k bytes more.
+pub fn after_word(t: &[u8], k: usize) -> &[u8]
+    ensures { λ r. ⌜ now r ≡ afterWord k (now (t .entry)) ⌝ }
+{
+    after(t, word_length(t), k)
 }
 
 // The low byte of a number.

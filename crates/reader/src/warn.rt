@@ -1,14 +1,14 @@
-// WARN sentences, read loosely: literals are passed over by their length, and nothing is checked but which flags stand there. So a
-// place may lie past the end of the text; each `requires` says by how much at most.
+// WARN sentences, read loosely: literals are passed over by their length, and nothing is checked but which flags stand there.
+use crate::scan::after;
 use crate::scan::low_byte;
-use readback::read_duration;
-use readback::read_number;
 use sheet::WarnFacts;
+use spoken::read_duration;
+use spoken::read_number;
 ghost use mathlib.Core.Path.{_≡_};
-ghost use Prim.Native.Nat.{_+_, _≤_};
+ghost use Prim.Native.Nat.{_-_};
 ghost use lib.ListN.{length, drop};
-ghost use Rattle.sheet.specs.Reading.{warnOf};
-ghost use Rattle.reader.specs.Pieces.{flagAt, FlagsAt, OriginAt, HazardAt};
+ghost use Rattle.sheet.specs.Reading.{afterFlag, warnOf};
+ghost use Rattle.reader.specs.Pieces.{originOf, hazardOf};
 
 // The lengths of the literals.
 const WARN_ALERT: usize = 10; // "warn alert"
@@ -33,28 +33,13 @@ const CERTAINTY: usize = 11; // ", certainty"
 
 const RESPONSE: usize = 10; // ", response"
 
-// Whether a flag is set, and the place behind its word.
-pub struct Flag {
-    pub set: bool,
-    pub end: usize,
-}
-
-// The flags, and the place behind them.
-pub struct Flags {
-    pub urgent: bool,
-    pub update: bool,
-    pub cancel: bool,
-    pub test: bool,
-    pub end: usize,
-}
-
-// The facts from the event to the lasting time, and the place behind them.
+// The facts from the event to the lasting time, and how many bytes are left after them.
 pub struct Origin {
     pub event: u32,
     pub number: u16,
     pub origin: u32,
     pub lasting: u32,
-    pub end: usize,
+    pub left: usize,
 }
 
 // The facts from the hazard on.
@@ -67,69 +52,54 @@ pub struct Hazard {
     pub response: u8,
 }
 
-// The flag whose word, with the space in front, may stand at a place.
-fn flag_at(t: &[u8], at: usize, word: &[u8]) -> Flag
-    ensures { λ r. ⌜ r ≡ flagAt at (now (word .entry)) (drop at (now (t .entry))) ⌝ }
+// What stands after a flag's word, with the space in front, where it leads a text.
+fn after_flag<'a>(t: &'a [u8], word: &[u8]) -> &'a [u8]
+    ensures { λ r. ⌜ now r ≡ afterFlag (now (word .entry)) (now (t .entry)) ⌝ }
 {
-    if text::starts_at(t, at, word) {
-        return Flag {
-            set: true,
-            end: at + word.len(),
-        };
+    if text::starts_with(t, word) {
+        return text::skip(t, word.len());
     }
-    Flag {
-        set: false,
-        end: at,
-    }
-}
-
-// The flags, from "warn alert" on.
-fn flags_at(t: &[u8], at: usize) -> Flags
-    requires { ⌜ at ≤ length (now t) ⌝ }
-    ensures { λ r. ⌜ FlagsAt (now (t .entry)) (drop at (now (t .entry))) r ⌝ }
-{
-    let urgent = flag_at(t, at + WARN_ALERT, b" urgent");
-    let update = flag_at(t, urgent.end, b" update");
-    let cancel = flag_at(t, update.end, b" cancel");
-    let test = flag_at(t, cancel.end, b" test");
-    Flags {
-        urgent: urgent.set,
-        update: update.set,
-        cancel: cancel.set,
-        test: test.set,
-        end: test.end,
-    }
+    t
 }
 
 // From ", event" to the lasting time.
-fn origin_at(t: &[u8], at: usize) -> Origin
-    requires { ⌜ at ≤ length (now t) + 10 ⌝ }
-    ensures { λ r. ⌜ OriginAt (now (t .entry)) (drop at (now (t .entry))) r ⌝ }
+fn origin_of(t: &[u8]) -> Origin
+    ensures { λ r. ⌜ r ≡ originOf (now (t .entry)) ⌝ }
 {
-    let event = read_number(t, at + EVENT);
-    let number = read_number(t, event.end + NUMBER);
-    let origin = read_number(t, number.end + ORIGIN);
-    let lasting = read_duration(t, origin.end + LASTS);
+    let first = text::skip(t, EVENT);
+    let event = read_number(first, 0);
+    let second = after(first, event.end, NUMBER);
+    let number = read_number(second, 0);
+    let third = after(second, number.end, ORIGIN);
+    let origin = read_number(third, 0);
+    let period = after(third, origin.end, LASTS);
+    let lasting = read_duration(period, 0);
+    let rest = text::skip(period, lasting.end);
     Origin {
         event: event.value,
         number: (number.value % 0x1_0000) as u16,
         origin: origin.value,
         lasting: lasting.value,
-        end: lasting.end,
+        left: rest.len(),
     }
 }
 
 // From ", hazard" on.
-fn hazard_at(t: &[u8], at: usize) -> Hazard
-    requires { ⌜ at ≤ length (now t) + 40 ⌝ }
-    ensures { λ r. ⌜ HazardAt (drop at (now (t .entry))) r ⌝ }
+fn hazard_of(t: &[u8]) -> Hazard
+    ensures { λ r. ⌜ r ≡ hazardOf (now (t .entry)) ⌝ }
 {
-    let hazard = read_number(t, at + HAZARD);
-    let kind = read_number(t, hazard.end + KIND);
-    let urgency = read_number(t, kind.end + URGENCY);
-    let severity = read_number(t, urgency.end + SEVERITY);
-    let certainty = read_number(t, severity.end + CERTAINTY);
-    let response = read_number(t, certainty.end + RESPONSE);
+    let first = text::skip(t, HAZARD);
+    let hazard = read_number(first, 0);
+    let second = after(first, hazard.end, KIND);
+    let kind = read_number(second, 0);
+    let third = after(second, kind.end, URGENCY);
+    let urgency = read_number(third, 0);
+    let fourth = after(third, urgency.end, SEVERITY);
+    let severity = read_number(fourth, 0);
+    let fifth = after(fourth, severity.end, CERTAINTY);
+    let certainty = read_number(fifth, 0);
+    let sixth = after(fifth, certainty.end, RESPONSE);
+    let response = read_number(sixth, 0);
     Hazard {
         hazard: low_byte(hazard.value),
         kind: low_byte(kind.value),
@@ -140,28 +110,41 @@ fn hazard_at(t: &[u8], at: usize) -> Hazard
     }
 }
 
-// A WARN sentence from its start.
-pub fn warn_at(t: &[u8], at: usize) -> WarnFacts
-    requires { ⌜ at ≤ length (now t) ⌝ }
-    ensures { λ r. ⌜ r ≡ warnOf (drop at (now (t .entry))) ⌝ }
+// The last bytes of a text, or all of it where it has fewer.
+fn last<'a>(t: &'a [u8], left: usize) -> &'a [u8]
+    ensures { λ r. ⌜ now r ≡ drop (length (now (t .entry)) - left) (now (t .entry)) ⌝ }
 {
-    let flags = flags_at(t, at);
-    let origin = origin_at(t, flags.end);
-    let hazard = hazard_at(t, origin.end);
+    if t.len() < left {
+        return t;
+    }
+    text::skip(t, t.len() - left)
+}
+
+// A WARN sentence from its start.
+pub fn warn_of(t: &[u8]) -> WarnFacts
+    ensures { λ r. ⌜ r ≡ warnOf (now (t .entry)) ⌝ }
+{
+    let urgent = text::skip(t, WARN_ALERT);
+    let update = after_flag(urgent, b" urgent");
+    let cancel = after_flag(update, b" update");
+    let test = after_flag(cancel, b" cancel");
+    let event = after_flag(test, b" test");
+    let o = origin_of(event);
+    let h = hazard_of(last(event, o.left));
     WarnFacts {
-        urgent: flags.urgent,
-        update: flags.update,
-        cancel: flags.cancel,
-        test: flags.test,
-        event: origin.event,
-        number: origin.number,
-        origin: origin.origin,
-        lasting: origin.lasting,
-        hazard: hazard.hazard,
-        kind: hazard.kind,
-        urgency: hazard.urgency,
-        severity: hazard.severity,
-        certainty: hazard.certainty,
-        response: hazard.response,
+        urgent: text::starts_with(urgent, b" urgent"),
+        update: text::starts_with(update, b" update"),
+        cancel: text::starts_with(cancel, b" cancel"),
+        test: text::starts_with(test, b" test"),
+        event: o.event,
+        number: o.number,
+        origin: o.origin,
+        lasting: o.lasting,
+        hazard: h.hazard,
+        kind: h.kind,
+        urgency: h.urgency,
+        severity: h.severity,
+        certainty: h.certainty,
+        response: h.response,
     }
 }

@@ -9,9 +9,12 @@ use libc::STDIN_FILENO;
 use libc::STDOUT_FILENO;
 use packet::PacketPlace;
 use packet::PacketSheet;
-use sheet::Wrote;
+use sheet::WriteSheet;
 ghost use Prim.Native.Nat.{_≤_};
 ghost use lib.ListN.{length};
+
+// Room for any sentence.
+const SENTENCE_ROOM: usize = 1024;
 
 const KEYS: [u32; 3] = [21, 4294967295, 7];
 
@@ -51,7 +54,7 @@ fn print_sentence(bytes: &[u8]) {
     let drawn = packet::packet_sheet(bytes);
     match drawn {
         PacketSheet::Sheet(facts) => {
-            let mut own = [0u8; 1024];
+            let mut own = [0u8; SENTENCE_ROOM];
             let answer = readback::write_warn(&mut own, 0, facts);
             print_written(&own, answer);
         }
@@ -59,8 +62,8 @@ fn print_sentence(bytes: &[u8]) {
     }
 }
 
-fn print_written(own: &[u8], answer: Wrote) {
-    let Wrote::End(end) = answer else {
+fn print_written(own: &[u8], answer: WriteSheet) {
+    let WriteSheet::End(end) = answer else {
         print(b"not written\n");
         return;
     };
@@ -143,7 +146,7 @@ fn take_record(table: Table, kind: u8, clock: u64, verdict: bool, bytes: &[u8]) 
     next
 }
 
-// The byte behind `i` bytes from `at` on; 0 past the end.
+// The byte after `i` bytes from `at` on; 0 past the end.
 fn byte_at(input: &[u8], at: usize, i: usize) -> u64
     ensures { λ r. ⌜ r ≤ 255 ⌝ }
 {

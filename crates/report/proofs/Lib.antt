@@ -1,4 +1,3 @@
-pub mod Behind
 pub mod Decimal
 pub mod Refusing
 pub mod Drawing

@@ -1,19 +1,19 @@
 -- What is written about a document, by the answer to checking it and by the buffer's room.
-use mathlib.Core.Path.{_≡_, refl, ap, _∙_}
-use mathlib.Core.Bool.{Bool, true, false, cond}
+use mathlib.Core.Path.{_≡_, refl, sym, ap, _∙_}
 use mathlib.Core.List.{List}
-use Prim.Native.Nat.{ℕ, zero, suc, _≤_, _<_}
+use Prim.Native.Nat.{ℕ, zero, suc, _*_, _≤_, _<_}
+use native.Mathlib.Nat.{zero-add}
 use native.Mathlib.Omega.{arith}
-use borrow.Author.Tests.{lt-ltb, le-ltb, ltb-false}
-use lib.Dec.{ltb}
+use borrow.Author.Tests.{lt-ltb, le-ltb}
 use lib.ListN.{length}
-use Rattle.text.specs.Buffer.{written}
+use Rattle.buffer.specs.Cursor.{Put}
+use Rattle.buffer.proofs.Room.{put-whole}
 use Rattle.document.specs.declared.Check.{Check}
 use Rattle.document.specs.declared.Check.the-variants as check
 use Rattle.document.specs.Elements.{Verdict, accepted, refused}
 use Rattle.document.specs.Documents.{documentOf, checked, checkOf}
 use Rattle.document.proofs.Schema.{parts-limit}
-use Rattle.report.specs.declared.Report.{Report}
+use Rattle.sheet.specs.Sentence.{longest}
 use Rattle.report.specs.declared.Report.the-variants as report
 use Rattle.report.specs.Lines.{refusalLine, linesFrom, linesOf, reportOf, reportRoom, reported, reportedIn}
 use Rattle.report.proofs.Refusing.{refusal-le}
@@ -53,39 +53,26 @@ module _ (l : List ℕ) where
 
 -- ---- the answer and the buffer d
 
+-- sixteen lines at most
+report-le : (l : List ℕ) → length (reportOf l) ≤ 16 * longest
+report-le l = go (checkOf l) refl
+  where
+    go : (c : Check) → checkOf l ≡ c → length (reportOf l) ≤ 16 * longest
+    go (check.Accepted zero) e = rw (report-none l 0 e refl) (omega (arith, lines-le l 1 0))
+    go (check.Accepted (suc k)) e = rw (report-some l (suc k) e (omega arith)) (omega (arith, check-limit l (suc k) e, lines-le l (suc k) 1))
+    go (check.Refused n p) e = rw (report-refused l n p e) (omega (arith, refusal-le n p))
+
 module _ (d l : List ℕ) where
   -- where the buffer is too small
   pub no-room : length d < reportRoom → (report.NoRoom ≡ reported d l) × (d ≡ reportedIn d l)
   unfolding reported reportedIn
   no-room h = let t = lt-ltb (length d) reportRoom h in (rw t, rw t)
 
-  -- where there is room, and t is what is to be written
+  -- where there is room, and t is what is written
   pub has-room :
-      (t e : List ℕ) (r : ℕ) → reportRoom ≤ length d → reportOf l ≡ t → (r ≡ length t) × (e ≡ written d 0 t)
-      → (report.End r ≡ reported d l) × (e ≡ reportedIn d l)
+      {t e : List ℕ} {r : ℕ} → reportRoom ≤ length d → reportOf l ≡ t → Put d 0 t e r → (report.End r ≡ reported d l) × (e ≡ reportedIn d l)
   unfolding reported reportedIn
-  has-room t e r h w p = let u = le-ltb (length d) reportRoom h in (rw (u, w, p .0), rw (u, w) (p .1))
-
--- ---- the room
-
--- sixteen lines at most
-pub report-le : (l : List ℕ) → length (reportOf l) ≤ 11_824
-report-le l = go (checkOf l) refl
-  where
-    go : (c : Check) → checkOf l ≡ c → length (reportOf l) ≤ 11_824
-    go (check.Accepted zero) e = rw (report-none l 0 e refl) (omega (arith, lines-le l 1 0))
-    go (check.Accepted (suc k)) e = rw (report-some l (suc k) e (omega arith)) (omega (arith, check-limit l (suc k) e, lines-le l (suc k) 1))
-    go (check.Refused n p) e = rw (report-refused l n p e) (omega (arith, refusal-le n p))
-
--- a report ends within the buffer
-pub report-within : (d l : List ℕ) (r : ℕ) → reported d l ≡ report.End r → r ≤ length d
-unfolding reported
-report-within d l r q = go (ltb (length d) reportRoom) refl q
-  where
-    place : Report → ℕ
-    place (report.End n) = n
-    place report.NoRoom = 0
-
-    go : (t : Bool) → ltb (length d) reportRoom ≡ t → cond t report.NoRoom (report.End (length (reportOf l))) ≡ report.End r → r ≤ length d
-    go true e p = omega (arith, ap place p)
-    go false e p = omega (arith, ap place p, report-le l, ltb-false (length d) reportRoom e)
+  has-room {t} {e} {r} h w p =
+      let u = le-ltb (length d) reportRoom h in
+      let v = put-whole (rw (sym w) at p) (omega (arith, report-le l)) in
+      (rw u (ap report.End (v .1 ∙ zero-add _)), rw u (v .0))

@@ -7,7 +7,7 @@ use Prim.Native.Char.{code}
 use lib.Dec.{ltb}
 use lib.ListN.{length}
 use Rattle.text.specs.Ascii.{ascii}
-use Rattle.text.specs.Buffer.{written}
+use Rattle.buffer.specs.Writing.{written}
 use Rattle.sheet.specs.Sheet.{cap}
 use Rattle.sheet.specs.Sentence.{sentence}
 use Rattle.sheet.specs.Reading.{spanIn}
@@ -29,7 +29,7 @@ digitsWithin (suc k) n = cond (ltb n 10) [] (digitsWithin k (n / 10)) ++ ((code 
 abbrev pub inDigits : ℕ → List ℕ
 inDigits n = digitsWithin 20 n
 
-unfoldable pub refusalLine : (number place : ℕ) → List ℕ
+unfoldable pub refusalLine : (number offset : ℕ) → List ℕ
 refusalLine n p = ascii "refused " ++ (inDigits n ++ (ascii " at " ++ (inDigits p ++ ascii "\n")))
 
 -- the line of a part, in front of the next parts' lines; a refusal is the last line
@@ -54,7 +54,7 @@ linesOf l (check.Refused n p) = refusalLine n p
 unfoldable pub reportOf : List ℕ → List ℕ
 reportOf l = linesOf l (checkOf l)
 
--- room for sixteen sentences, of at most 739 bytes each, and a refusal
+-- room for sixteen of the longest sentences, and a refusal
 abbrev pub reportRoom : ℕ
 reportRoom = 12_000
 

@@ -1,68 +1,43 @@
 // Numbers in digits, and the line of a refusal.
-ghost use mathlib.Core.Path.{_≡_};
-ghost use mathlib.Core.List.{_++_};
-ghost use Prim.Native.Nat.{_+_, _≤_};
-ghost use lib.ListN.{length};
-ghost use Rattle.text.specs.Buffer.{written};
+use buffer::put;
+use text::skip;
+ghost use mathlib.Core.List.{[], _∷_};
+ghost use Rattle.buffer.specs.Cursor.{Put, PutAll};
 ghost use Rattle.report.specs.Lines.{inDigits, refusalLine};
 
-// How many digits a number has.
-fn digit_count(n: u64) -> usize
-    ensures { λ r. ⌜ r ≡ length (inDigits n) ⌝ }
-{
-    let mut k = 1;
-    let mut rest = n / 10;
-    while 0 < rest {
-        rest = rest / 10;
-        k += 1;
-    }
-    k
-}
+// Enough for any number of 64 bits.
+const MOST_DIGITS: usize = 20;
 
-// Writes a text from a place on, and gives the place behind it.
-fn put(buffer: &mut [u8], at: usize, t: &[u8]) -> usize
-    requires { ⌜ at + length (now t) ≤ length (now buffer) ⌝ }
-    ensures { λ r. ⌜ (r ≡ at + length (now (t .entry))) × (now (buffer .exit) ≡ written (now (buffer .entry)) at (now (t .entry))) ⌝ }
+// Writes as much of a number in digits as fits into dst from the place at on, and gives the place after it. The last digit is found first.
+fn put_digits(dst: &mut [u8], at: usize, n: u64) -> usize
+    ensures { λ r. ⌜ Put (now (dst .entry)) at (inDigits n) (now (dst .exit)) r ⌝ }
 {
-    let mut i = 0;
-    while i < t.len() {
-        buffer[at + i] = t[i];
-        i += 1;
-    }
-    at + t.len()
-}
-
-// Writes a number in digits from a place on, and gives the place behind it.
-fn put_digits(buffer: &mut [u8], at: usize, n: u64) -> usize
-    requires { ⌜ at + 20 ≤ length (now buffer) ⌝ }
-    ensures { λ r. ⌜ (r ≡ at + length (inDigits n)) × (now (buffer .exit) ≡ written (now (buffer .entry)) at (inDigits n)) ⌝ }
-{
-    let k = digit_count(n);
+    let mut own = [0u8; MOST_DIGITS];
     let mut rest = n;
-    let mut i = k;
-    while 0 < i {
+    let mut i = MOST_DIGITS;
+    loop {
         i -= 1;
-        buffer[at + i] = b'0' + (rest % 10) as u8;
+        own[i] = b'0' + (rest % 10) as u8;
         rest = rest / 10;
+        if rest == 0 {
+            return put(dst, at, skip(&own, i));
+        }
     }
-    at + k
 }
 
-// Writes a text and a number in digits behind it from a place on, and gives the place behind them.
-fn put_numbered(buffer: &mut [u8], at: usize, t: &[u8], n: u64) -> usize
-    requires { ⌜ at + length (now t) + 20 ≤ length (now buffer) ⌝ }
-    ensures { λ r. ⌜ (r ≡ at + length (now (t .entry) ++ inDigits n)) × (now (buffer .exit) ≡ written (now (buffer .entry)) at (now (t .entry) ++ inDigits n)) ⌝ }
+// The same of a number after the text in front of it.
+fn put_numbered(dst: &mut [u8], at: usize, before: &[u8], n: u64) -> usize
+    ensures { λ r. ⌜ PutAll (now (dst .entry)) at (now (before .entry) ∷ inDigits n ∷ []) (now (dst .exit)) r ⌝ }
 {
-    let end = put(buffer, at, t);
-    put_digits(buffer, end, n)
+    let a = put(dst, at, before);
+    put_digits(dst, a, n)
 }
 
-// Writes the line of a refusal from a place on, and gives the place behind it.
-pub fn write_refusal(buffer: &mut [u8], at: usize, number: u8, place: usize) -> usize
-    requires { ⌜ at + 64 ≤ length (now buffer) ⌝ }
-    ensures { λ r. ⌜ (r ≡ at + length (refusalLine number place)) × (now (buffer .exit) ≡ written (now (buffer .entry)) at (refusalLine number place)) ⌝ }
+// The line of a refusal.
+pub fn put_refusal(dst: &mut [u8], at: usize, number: u8, offset: usize) -> usize
+    ensures { λ r. ⌜ Put (now (dst .entry)) at (refusalLine number offset) (now (dst .exit)) r ⌝ }
 {
-    let a = put_numbered(buffer, at, b"refused ", number as u64);
-    let b = put_numbered(buffer, a, b" at ", place as u64);
-    put(buffer, b, b"\n")
+    let a = put_numbered(dst, at, b"refused ", number as u64);
+    let b = put_numbered(dst, a, b" at ", offset as u64);
+    put(dst, b, b"\n")
 }

@@ -6,7 +6,10 @@ ghost use Rattle.report.specs.Lines.{reported, reportedIn};
 mod digits; // digits.rt: numbers in digits, and the line of a refusal
 mod lines; // lines.rt: the lines of parts
 
-// Where a report ends, or that the buffer has less than 12,000 bytes, which is room for any.
+// Room for any report.
+pub const ROOM: usize = 12_000;
+
+// Where a report ends, or that the buffer has less than ROOM bytes.
 pub enum Report {
     End(usize),
     NoRoom,
@@ -16,22 +19,19 @@ pub enum Report {
 pub fn write_report(buffer: &mut [u8], s: &[u8]) -> Report
     ensures { λ r. ⌜ (r ≡ reported (now (buffer .entry)) (now (s .entry))) × (now (buffer .exit) ≡ reportedIn (now (buffer .entry)) (now (s .entry))) ⌝ }
 {
-    if buffer.len() < 12_000 {
+    if buffer.len() < ROOM {
         return Report::NoRoom;
     }
     let checked = document::check_document(s);
     match checked {
-        Check::Refused(number, place) => Report::End(digits::write_refusal(
-            buffer,
-            0,
-            number,
-            place,
-        )),
+        Check::Refused(number, offset) => {
+            Report::End(digits::put_refusal(buffer, 0, number, offset))
+        }
         Check::Accepted(parts) => {
             if parts == 0 {
-                return Report::End(lines::write_parts(buffer, s, 0, 1));
+                return Report::End(lines::put_lines(buffer, s, 0, 1));
             }
-            Report::End(lines::write_parts(buffer, s, 1, parts))
+            Report::End(lines::put_lines(buffer, s, 1, parts))
         }
     }
 }

@@ -1,4 +1,4 @@
--- What a text has that keeps to its rule, and which rule the classes have that facts are drawn from.
+-- What a text has that keeps to its rule.
 use mathlib.Core.Path.{_≡_, refl}
 use mathlib.Core.Bool.{true, _&&_}
 use mathlib.Core.List.{List}
@@ -15,9 +15,7 @@ use Rattle.time.specs.Time.{timeOf}
 use Rattle.sheet.specs.Sheet.{allNameBytes}
 use Rattle.schema.specs.Classes as class
 use Rattle.rules.specs.Codes.{codeOf}
-use Rattle.rules.specs.Texts.{nameRule, codeRule, timeNumber, timeRule, polygonRule, circleRule, textRule}
-
--- ---- what is kept
+use Rattle.rules.specs.Texts.{nameRule, codeRule, timeNumber, timeRule, textRule}
 
 -- a name has 1 to 128 bytes, all of them allowed
 pub name-kept : (t : List ℕ) → nameRule t ≡ 0 → (1 ≤ length t) × ((length t ≤ 128) × (allNameBytes t ≡ true))
@@ -43,57 +41,10 @@ pub time-kept : (t : List ℕ) → timeRule t ≡ 0 → (i : ℤ) × (timeOf t �
 unfolding timeRule
 time-kept t e = instant-of (timeOf t) e
 
--- ---- the rule of a class
+pub identifier-rule : (t : List ℕ) → textRule class.identifier t ≡ nameRule t
+unfolding textRule
+identifier-rule t = refl
 
-module _ (t : List ℕ) where
-  pub identifier-rule : textRule class.identifier t ≡ nameRule t
-  unfolding textRule
-  identifier-rule = refl
-
-  pub sender-rule : textRule class.sender t ≡ nameRule t
-  unfolding textRule
-  sender-rule = refl
-
-  pub sent-rule : textRule class.sent t ≡ timeRule t
-  unfolding textRule
-  sent-rule = refl
-
-  pub effective-rule : textRule class.effective t ≡ timeRule t
-  unfolding textRule
-  effective-rule = refl
-
-  pub expires-rule : textRule class.expires t ≡ timeRule t
-  unfolding textRule
-  expires-rule = refl
-
-  pub status-rule : textRule class.status t ≡ codeRule class.status t
-  unfolding textRule
-  status-rule = refl
-
-  pub msgType-rule : textRule class.msgType t ≡ codeRule class.msgType t
-  unfolding textRule
-  msgType-rule = refl
-
-  pub scope-rule : textRule class.scope t ≡ codeRule class.scope t
-  unfolding textRule
-  scope-rule = refl
-
-  pub urgency-rule : textRule class.urgency t ≡ codeRule class.urgency t
-  unfolding textRule
-  urgency-rule = refl
-
-  pub severity-rule : textRule class.severity t ≡ codeRule class.severity t
-  unfolding textRule
-  severity-rule = refl
-
-  pub certainty-rule : textRule class.certainty t ≡ codeRule class.certainty t
-  unfolding textRule
-  certainty-rule = refl
-
-  pub polygon-rule : textRule class.polygon t ≡ polygonRule t
-  unfolding textRule
-  polygon-rule = refl
-
-  pub circle-rule : textRule class.circle t ≡ circleRule t
-  unfolding textRule
-  circle-rule = refl
+pub sender-rule : (t : List ℕ) → textRule class.sender t ≡ nameRule t
+unfolding textRule
+sender-rule t = refl

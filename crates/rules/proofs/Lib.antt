@@ -1,4 +1,2 @@
-pub mod Spelling
-pub mod Search
 pub mod Cases
 pub mod Kept

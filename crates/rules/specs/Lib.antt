@@ -1,4 +1,3 @@
 pub mod Codes
-pub mod AllCodes
 pub mod Texts
 pub mod Samples

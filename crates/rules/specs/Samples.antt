@@ -13,7 +13,7 @@ use Rattle.coordinates.specs.Place.{coordinateAt, degreesOf, pairOf}
 use Rattle.polygon.specs.Polygon.{allPairs, placesOf, lastOf, isClosed, isPolygon}
 use Rattle.circle.specs.Circle.{circleTokens, circleOf}
 use Rattle.schema.specs.Classes as class
-use Rattle.rules.specs.Codes.{codes, codeOf}
+use Rattle.codes.specs.Lists.{lists, codeOf}
 use Rattle.rules.specs.Texts.{nameRule, codeRule, timeRule, polygonRule, circleRule, textRule}
 
 -- "codes exactly, no trimming"
@@ -24,7 +24,7 @@ pub sample-codes :
     × (textRule class.certainty (ascii "Very Likely") ≡ 17)
     × (textRule class.category (ascii "Safety") ≡ 0)
     × (textRule class.responseType (ascii "AllClear") ≡ 0)
-unfolding codes class.find codeOf codeRule textRule
+unfolding lists class.find codeOf codeRule textRule
 sample-codes = (refl, refl, refl, refl, refl, refl)
 
 -- a comma, and no byte at all
@@ -38,14 +38,14 @@ sample-names = (refl, refl)
 pub sample-times :
     (textRule class.sent (ascii "2002-05-24T16:49:00-07:00") ≡ 0)
     × (textRule class.sent (ascii "2002-05-24T16:49:00Z") ≡ 18)
-unfolding spaces allSpace numberFrom daysOfYears daysOfMonths hasForm stampOf isStamp localSeconds epoch offset instantOf stampTime timeOf timeRule textRule
+unfolding numberFrom daysOfYears daysOfMonths hasForm stampOf isStamp localSeconds epoch offset instantOf stampTime timeOf timeRule textRule
 sample-times = (refl, refl)
 
 -- a closed triangle, and a circle without a radius
 pub sample-areas :
     (textRule class.polygon (ascii "0,0 0,1 1,0 0,0") ≡ 0)
     × (textRule class.circle (ascii "1,1") ≡ 22)
-unfolding digits numberFrom onToken longer tokens leads places fraction decimalLength isDecimal scaled coordinateAt degreesOf pairOf allPairs placesOf lastOf isClosed isPolygon circleTokens circleOf polygonRule circleRule textRule
+unfolding numberFrom onToken longer tokens leads places fraction decimalLength isDecimal scaled coordinateAt degreesOf pairOf allPairs placesOf lastOf isClosed isPolygon circleTokens circleOf polygonRule circleRule textRule
 sample-areas = (refl, refl)
 
 -- event has no rule

@@ -1,13 +1,14 @@
 // The rules of texts of CAP documents, by their element's class.
 use circle::Circle;
+use codes::list;
+use codes::texts::code_of;
 use schema::class;
 use sheet::ranges::is_name_byte;
 use time::Time;
 ghost use mathlib.Core.Path.{_≡_};
 ghost use Rattle.sheet.specs.Sheet.{allNameBytes};
+ghost use Rattle.rules.specs.Codes.{listOf, hasCodes};
 ghost use Rattle.rules.specs.Texts.{nameRule, codeRule, timeRule, polygonRule, circleRule, isTime, textRule};
-
-pub mod codes; // codes.rt: code lists
 
 // Whether sender and identifier may hold all bytes of a text.
 fn all_name_bytes(t: &[u8]) -> bool
@@ -39,11 +40,35 @@ fn name_rule(t: &[u8]) -> u8
     19
 }
 
+// The code list of a class; 8, which is none, for a class without codes.
+fn list_of(class: usize) -> usize
+    ensures { λ r. ⌜ r ≡ listOf class ⌝ }
+{
+    match class {
+        class::STATUS => list::STATUS,
+        class::MSG_TYPE => list::MSG_TYPE,
+        class::SCOPE => list::SCOPE,
+        class::CATEGORY => list::CATEGORY,
+        class::RESPONSE_TYPE => list::RESPONSE_TYPE,
+        class::URGENCY => list::URGENCY,
+        class::SEVERITY => list::SEVERITY,
+        class::CERTAINTY => list::CERTAINTY,
+        _ => 8,
+    }
+}
+
+// Whether texts of a class are codes.
+fn has_codes(class: usize) -> bool
+    ensures { λ r. ⌜ r ≡ hasCodes class ⌝ }
+{
+    list_of(class) < 8
+}
+
 // The rule of codes.
 fn code_rule(class: usize, t: &[u8]) -> u8
     ensures { λ r. ⌜ r ≡ codeRule class (now (t .entry)) ⌝ }
 {
-    if codes::code_of(class, t) == 0 {
+    if code_of(list_of(class), t) == 0 {
         return 17;
     }
     0
@@ -98,7 +123,7 @@ pub fn text_rule(class: usize, t: &[u8]) -> u8
     if (class == class::IDENTIFIER) | (class == class::SENDER) {
         return name_rule(t);
     }
-    if codes::has_codes(class) {
+    if has_codes(class) {
         return code_rule(class, t);
     }
     if is_time(class) {

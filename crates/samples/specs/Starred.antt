@@ -12,7 +12,7 @@ use Rattle.words.specs.Samples.{sample-numbers, sample-year, sample-quarter}
 use Rattle.coordinates.specs.declared.Inclusion.the-variants.{Inside, Outside}
 use mathlib.Core.List.{[], _∷_}
 use Rattle.events.specs.declared.Receipt.the-variants.{Accepted, NotAbove}
-use Rattle.events.specs.Table.{judged}
+use Rattle.events.specs.Table.{tableOutcome}
 use Rattle.events.specs.Samples.{numbered, stored, sample-stored}
 use Rattle.circle.specs.Circle.{unitsOf, aroundHolds}
 use Rattle.circle.specs.Samples.{north, sample-circle}
@@ -42,8 +42,8 @@ pub record Starred : Type 0 where
   pub thousand : words 1_015 ≡ ascii "one thousand fifteen"
   pub none : words 0 ≡ ascii "zero"
   -- stored 9: 9 refused, 10 taken
-  pub equal : judged 0 (numbered 9) (stored 9 ∷ []) .receipt ≡ NotAbove
-  pub above : judged 0 (numbered 10) (stored 9 ∷ []) .receipt ≡ Accepted
+  pub equal : tableOutcome 0 (numbered 9) (stored 9 ∷ []) .receipt ≡ NotAbove
+  pub above : tableOutcome 0 (numbered 10) (stored 9 ∷ []) .receipt ≡ Accepted
   -- 1,000 m: u is 89,932; due north 89,932 inside, 89,933 outside
   pub units : unitsOf 1_000 ≡ 89_932
   pub inside : aroundHolds (north 0) 1_000 (north 89_932) ≡ Inside

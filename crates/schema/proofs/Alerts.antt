@@ -1,79 +1,75 @@
--- What the table says of the alert, of containers and of leaves: rules of row, class and next row, each tested once over the table.
-use mathlib.Core.Path.{_≡_, _∙_}
-use mathlib.Core.Bool.{Bool, true, false, cond, not, _||_, false≢true}
-use Prim.Native.Nat.{ℕ, _≤_, _<_}
+-- Where the alert stands and how it begins: rules of a state, a class and the next state, each tested once over all states and classes.
+use mathlib.Core.Path.{_≡_, refl}
+use mathlib.Core.Bool.{Bool, true, not, _&&_, _||_}
+use Prim.Native.Nat.{ℕ, _+_, _<_}
 use native.Mathlib.Omega.{arith}
-use lib.Dec.{eqb, leb}
-use borrow.Author.Tests.{eqb-true, eqb-false, not-true, ne-eqb, le-leb, lt-leb}
-use Rattle.text.specs.Logic.{by-test}
+use lib.Dec.{T, eqb}
+use borrow.Author.Tests.{eqb-true, eqb-false, not-true, eq-eqb, ne-eqb}
+use Rattle.text.specs.Logic.{and-left, and-right, below}
 use Rattle.schema.specs.Classes as class
-use Rattle.schema.specs.Sequences.{before, over, ownerFrom, containerOf, nextOf}
-use Rattle.schema.proofs.Table.{table, next-rule}
+use Rattle.schema.specs.Sequences.{before, firstState, states, classes, containerOf, nextOf}
+use Rattle.schema.proofs.Table.{below-both, inside}
 
--- ---- the rules
+-- ---- rules of any table
+
+-- a rule holds at each entry that is not 0
+abbrev Holds : (next : ℕ → ℕ → ℕ) → (ℕ → ℕ → ℕ → Bool) → Type 0
+Holds next f = T (below states (λ (s : ℕ). below classes (λ (c : ℕ). eqb (next s c) 0 || f s c (next s c))))
+
+-- such a rule holds wherever an element may stand
+next-rule :
+    (next : ℕ → ℕ → ℕ) (f : ℕ → ℕ → ℕ → Bool) → Holds next f
+    → (s c : ℕ) → s < states → c < classes → (next s c ≡ 0 → ⊥) → f s c (next s c) ≡ true
+next-rule next f t s c h g n =
+    rw (ne-eqb (next s c) 0 n) at (below-both states classes (λ (s c : ℕ). eqb (next s c) 0 || f s c (next s c)) t s c h g)
+
+-- the same of the schema's
+rule : (f : ℕ → ℕ → ℕ → Bool) → Holds nextOf f → (s c : ℕ) → (nextOf s c ≡ 0 → ⊥) → f s c (nextOf s c) ≡ true
+rule f t s c n = let i = inside s c n in next-rule nextOf f t s c (i .0) (i .1) n
+
+-- ---- where the alert stands
 
 abbrev alert-rule : ℕ → ℕ → ℕ → Bool
-alert-rule r c e = not (eqb c class.alert) || eqb r before
-
-abbrev before-rule : ℕ → ℕ → ℕ → Bool
-before-rule r c e = not (eqb r before) || eqb c class.alert
+alert-rule s c e = not (eqb c class.alert) || eqb s before
 
 abbrev later-rule : ℕ → ℕ → ℕ → Bool
-later-rule r c e = not (eqb e before)
+later-rule s c e = not (eqb e before)
 
-abbrev over-rule : ℕ → ℕ → ℕ → Bool
-over-rule r c e = not (eqb r over)
+-- the alert starts in the first state only
+pub alert-before : (s : ℕ) → (nextOf s class.alert ≡ 0 → ⊥) → s ≡ before
+unfolding nextOf containerOf
+alert-before s h = eqb-true s before (rule alert-rule tt s class.alert h)
 
-abbrev info-rule : ℕ → ℕ → ℕ → Bool
-info-rule r c e = not (eqb c class.info) || eqb (containerOf r) class.alert
+-- nothing leads back there
+pub never-before : (s c : ℕ) → nextOf s c ≡ before → ⊥
+unfolding nextOf containerOf
+never-before s c e = eqb-false (nextOf s c) before (not-true _ (rule later-rule tt s c (λ z. omega (arith, e, z)))) e
 
--- a container's start leads into it, a leaf leaves the container as it is
-abbrev ownerAfter : ℕ → ℕ → ℕ
-ownerAfter r c = cond (leb c class.lastContainer) c (containerOf r)
+-- ---- states in which one class only may stand
 
-abbrev start-rule : ℕ → ℕ → ℕ → Bool
-start-rule r c e = eqb c 0 || eqb (containerOf e) (ownerAfter r c)
+abbrev only-rule : (state class next : ℕ) → ℕ → ℕ → ℕ → Bool
+only-rule state d next s c e = not (eqb s state) || (eqb c d && eqb e next)
 
--- ---- what they say
+abbrev pub Only : (state class next : ℕ) → Type 0
+Only state d next = (c : ℕ) → (nextOf state c ≡ 0 → ⊥) → (c ≡ d) × (nextOf state c ≡ next)
 
--- the alert starts in the first row only
-pub alert-before : (row : ℕ) → (nextOf row class.alert ≡ 0 → ⊥) → row ≡ before
-unfolding table
-alert-before row h = eqb-true row before (next-rule alert-rule tt row class.alert h)
+only-one : (state d next : ℕ) → Holds nextOf (only-rule state d next) → Only state d next
+only-one state d next t c h =
+    let k : eqb c d && eqb (nextOf state c) next ≡ true = rw (eq-eqb state state refl) at (rule (only-rule state d next) t state c h) in
+    (eqb-true c d (and-left _ _ k), eqb-true (nextOf state c) next (and-right (eqb c d) _ k))
+
+pub only-alert : Only before class.alert (firstState class.alert)
+unfolding nextOf containerOf
+only-alert = only-one before class.alert (firstState class.alert) tt
 
 -- nothing else starts there
 pub before-alert : (c : ℕ) → (nextOf before c ≡ 0 → ⊥) → c ≡ class.alert
-unfolding table
-before-alert c h = eqb-true c class.alert (next-rule before-rule tt before c h)
+before-alert c h = only-alert c h .0
 
--- nothing leads back there
-pub never-before : (row c : ℕ) → nextOf row c ≡ before → ⊥
-unfolding table
-never-before row c e =
-    eqb-false (nextOf row c) before (not-true _ (next-rule later-rule tt row c (λ z. omega (arith, e, z)))) e
+pub only-identifier : Only (firstState class.alert) class.identifier (firstState class.alert + 1)
+unfolding nextOf containerOf
+only-identifier = only-one (firstState class.alert) class.identifier (firstState class.alert + 1) tt
 
--- nothing follows behind the alert
-pub over-end : (c : ℕ) → nextOf over c ≡ 0
-unfolding table
-over-end c =
-    by-test (eqb (nextOf over c) 0) (eqb-true (nextOf over c) 0)
-    (λ t. absurd (false≢true (next-rule over-rule tt over c (eqb-false (nextOf over c) 0 t))))
-
-start-owner : (row c : ℕ) → (c ≡ 0 → ⊥) → (nextOf row c ≡ 0 → ⊥) → containerOf (nextOf row c) ≡ ownerAfter row c
-unfolding table containerOf ownerFrom
-start-owner row c n h =
-    let t : eqb (containerOf (nextOf row c)) (ownerAfter row c) ≡ true = rw (ne-eqb c 0 n) at (next-rule start-rule tt row c h) in
-    eqb-true (containerOf (nextOf row c)) (ownerAfter row c) t
-
--- a container's start leads into the container
-pub container-start : (row c : ℕ) → c ≤ class.lastContainer → (c ≡ 0 → ⊥) → (nextOf row c ≡ 0 → ⊥) → containerOf (nextOf row c) ≡ c
-container-start row c h n g = start-owner row c n g ∙ rw (le-leb c class.lastContainer h)
-
--- a leaf stays in the container
-pub leaf-stays : (row c : ℕ) → class.lastContainer < c → (nextOf row c ≡ 0 → ⊥) → containerOf (nextOf row c) ≡ containerOf row
-leaf-stays row c h g = start-owner row c (λ z. omega (arith, h, z)) g ∙ rw (lt-leb c class.lastContainer h)
-
--- an info stands in the alert
-pub infos-in-alert : (row : ℕ) → (nextOf row class.info ≡ 0 → ⊥) → containerOf row ≡ class.alert
-unfolding table containerOf ownerFrom
-infos-in-alert row h = eqb-true (containerOf row) class.alert (next-rule info-rule tt row class.info h)
+pub only-sender : Only (firstState class.alert + 1) class.sender (firstState class.alert + 2)
+unfolding nextOf containerOf
+only-sender = only-one (firstState class.alert + 1) class.sender (firstState class.alert + 2) tt

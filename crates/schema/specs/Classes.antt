@@ -1,10 +1,9 @@
 -- The elements of CAP 1.2 by name (source document 007, clause 7.4). An element's class is its number here; class 0 is no element.
-use mathlib.Core.Bool.{Bool, cond}
 use mathlib.Core.List.{List, [], _∷_}
-use Prim.Native.Nat.{ℕ, _+_}
+use Prim.Native.Nat.{ℕ}
 use lib.ListN.{getD}
 use Rattle.text.specs.Ascii.{ascii}
-use Rattle.text.specs.Logic.{eql}
+unfoldable pub use Rattle.text.specs.Search.{find}
 
 -- ---- containers
 
@@ -175,11 +174,6 @@ names =
 -- the name of a class
 abbrev pub nameOf : ℕ → List ℕ
 nameOf c = getD names c []
-
--- the first place of a name in a list whose places are counted from k; 0 for none
-unfoldable pub find : ℕ → List ℕ → List (List ℕ) → ℕ
-find k t [] = 0
-find k t (n ∷ ns) = cond (eql t n) k (find (k + 1) t ns)
 
 -- the class of a name, 0 where no element has it
 unfoldable pub classOf : List ℕ → ℕ

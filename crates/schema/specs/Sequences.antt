@@ -3,7 +3,7 @@ use mathlib.Core.Bool.{Bool, true, false, cond, not, _&&_, _||_}
 use mathlib.Core.List.{List, [], _∷_}
 use Prim.Native.Nat.{ℕ, zero, suc, _+_, _-_}
 use lib.Dec.{eqb, leb, ltb}
-use lib.ListN.{getD}
+use lib.ListN.{length, getD}
 use Rattle.schema.specs.Classes as class
 
 -- ---- "the sequence and counts are those of 007's schema"
@@ -17,11 +17,11 @@ pub record Particle : Type 0 where
 abbrev one : ℕ → Particle
 one c = record { class = c; least = 1; many = false }
 
-abbrev several : ℕ → Particle
-several c = record { class = c; least = 1; many = true }
+abbrev oneOrMore : ℕ → Particle
+oneOrMore c = record { class = c; least = 1; many = true }
 
-abbrev any : ℕ → Particle
-any c = record { class = c; least = 0; many = true }
+abbrev zeroOrMore : ℕ → Particle
+zeroOrMore c = record { class = c; least = 0; many = true }
 
 abbrev optional : ℕ → Particle
 optional c = record { class = c; least = 0; many = false }
@@ -34,16 +34,16 @@ documentParticles =
 abbrev alertParticles : List Particle
 alertParticles =
     one class.identifier ∷ one class.sender ∷ one class.sent ∷ one class.status ∷ one class.msgType ∷ optional class.source ∷
-    one class.scope ∷ optional class.restriction ∷ optional class.addresses ∷ any class.code ∷ optional class.note ∷
-    optional class.references ∷ optional class.incidents ∷ any class.info ∷ []
+    one class.scope ∷ optional class.restriction ∷ optional class.addresses ∷ zeroOrMore class.code ∷ optional class.note ∷
+    optional class.references ∷ optional class.incidents ∷ zeroOrMore class.info ∷ []
 
 abbrev infoParticles : List Particle
 infoParticles =
-    optional class.language ∷ several class.category ∷ one class.event ∷ any class.responseType ∷ one class.urgency ∷
-    one class.severity ∷ one class.certainty ∷ optional class.audience ∷ any class.eventCode ∷ optional class.effective ∷
+    optional class.language ∷ oneOrMore class.category ∷ one class.event ∷ zeroOrMore class.responseType ∷ one class.urgency ∷
+    one class.severity ∷ one class.certainty ∷ optional class.audience ∷ zeroOrMore class.eventCode ∷ optional class.effective ∷
     optional class.onset ∷ optional class.expires ∷ optional class.senderName ∷ optional class.headline ∷
-    optional class.description ∷ optional class.instruction ∷ optional class.web ∷ optional class.contact ∷ any class.parameter ∷
-    any class.resource ∷ any class.area ∷ []
+    optional class.description ∷ optional class.instruction ∷ optional class.web ∷ optional class.contact ∷ zeroOrMore class.parameter ∷
+    zeroOrMore class.resource ∷ zeroOrMore class.area ∷ []
 
 abbrev resourceParticles : List Particle
 resourceParticles =
@@ -52,7 +52,7 @@ resourceParticles =
 
 abbrev areaParticles : List Particle
 areaParticles =
-    one class.areaDesc ∷ any class.polygon ∷ any class.circle ∷ any class.geocode ∷ optional class.altitude ∷
+    one class.areaDesc ∷ zeroOrMore class.polygon ∷ zeroOrMore class.circle ∷ zeroOrMore class.geocode ∷ optional class.altitude ∷
     optional class.ceiling ∷ []
 
 -- eventCode, parameter and geocode
@@ -61,7 +61,7 @@ pairParticles =
     one class.valueName ∷ one class.value ∷ []
 
 -- the sequence of a container
-unfoldable pub particles : ℕ → List Particle
+abbrev pub particles : ℕ → List Particle
 particles c =
     getD
     (documentParticles ∷ alertParticles ∷ infoParticles ∷ resourceParticles ∷ areaParticles
@@ -73,37 +73,39 @@ particles c =
 abbrev pub parentOf : ℕ → ℕ
 parentOf c = getD (0 ∷ 0 ∷ class.alert ∷ class.info ∷ class.info ∷ class.info ∷ class.info ∷ class.area ∷ []) c 0
 
--- ---- rows: a container's state is how many of its particles are passed, and each container's states are rows one after the other
+-- ---- states: a container's state is how many of its particles are passed; the states of all containers are counted one after the other
 
--- the row of a container in which nothing stands yet; row 0 is none
-abbrev pub firstRow : ℕ → ℕ
-firstRow c = getD (1 ∷ 3 ∷ 18 ∷ 40 ∷ 47 ∷ 54 ∷ 57 ∷ 60 ∷ []) c 0
+-- the state of a container in which nothing stands yet; state 0 is none
+abbrev pub firstState : ℕ → ℕ
+firstState zero = 1
+firstState (suc c) = firstState c + length (particles c) + 1
 
-abbrev pub rows : ℕ
-rows = 63
+abbrev pub states : ℕ
+states = firstState (suc class.lastContainer)
 
 abbrev pub classes : ℕ
 classes = 51
 
--- before the alert, and behind it
+-- before the alert, and after it
 abbrev pub before : ℕ
 before = 1
 
 abbrev pub over : ℕ
 over = 2
 
--- the last container, counted down from n, whose first row is not behind a row
-unfoldable pub ownerFrom : ℕ → ℕ → ℕ
-ownerFrom zero row = 0
-ownerFrom (suc n) row = cond (leb (firstRow (suc n)) row) (suc n) (ownerFrom n row)
+-- the last container, counted down from n, whose first state is not after a state
+abbrev pub ownerFrom : ℕ → ℕ → ℕ
+ownerFrom zero state = 0
+ownerFrom (suc n) state = cond (leb (firstState (suc n)) state) (suc n) (ownerFrom n state)
 
--- the container that a row belongs to
+-- the container that a state belongs to
 unfoldable pub containerOf : ℕ → ℕ
-containerOf row = cond (ltb row rows) (ownerFrom class.lastContainer row) 0
+containerOf state = cond (ltb state states) (ownerFrom class.lastContainer state) 0
 
 -- ---- what may follow
 
--- what the particle at place i says of a class, if k particles are passed: the class stands at i, or a later particle must tell, or it may not stand here.
+-- what the particle at place i says of a class, if k particles are passed: the class stands at i, or a later particle must tell, or it may not
+-- stand here.
 -- passed: i is before the last particle passed; last: i is that one; same: the class is the particle's
 abbrev choose : (passed last same : Bool) → Particle → ℕ → ℕ → ℕ
 choose true last same p i later = later
@@ -113,40 +115,40 @@ choose false false true p i later = i
 choose false false false p i later = cond (eqb (p .least) 0) later 0
 
 -- the place of the particle by which a class may follow the first k particles, counted from i; 0 where it may not
-unfoldable pub follows : ℕ → ℕ → ℕ → List Particle → ℕ
+abbrev pub follows : ℕ → ℕ → ℕ → List Particle → ℕ
 follows k c i [] = 0
 follows k c i (p ∷ ps) = choose (ltb i k) (eqb i k) (eqb (p .class) c) p i (follows k c (i + 1) ps)
 
--- nothing behind the first k particles is required
-unfoldable pub complete : ℕ → ℕ → List Particle → Bool
+-- nothing after the first k particles is required
+abbrev pub complete : ℕ → ℕ → List Particle → Bool
 complete k i [] = true
 complete k i (p ∷ ps) = (leb i k || eqb (p .least) 0) && complete k (i + 1) ps
 
 -- the place of a class among the particles
-unfoldable pub placeIn : ℕ → ℕ → List Particle → ℕ
-placeIn c i [] = 0
-placeIn c i (p ∷ ps) = cond (eqb (p .class) c) i (placeIn c (i + 1) ps)
+abbrev pub indexIn : ℕ → ℕ → List Particle → ℕ
+indexIn c i [] = 0
+indexIn c i (p ∷ ps) = cond (eqb (p .class) c) i (indexIn c (i + 1) ps)
 
--- the row behind the end of a container of which k particles are passed: its parent's, behind it; 0 where something is missing
+-- the state after the end of a container of which k particles are passed: its parent's, after it; 0 where something is missing
 abbrev endOf : ℕ → ℕ → ℕ
 endOf c k =
     cond (not (eqb c 0) && complete k 1 (particles c))
-    (firstRow (parentOf c) + placeIn c 1 (particles (parentOf c)))
+    (firstState (parentOf c) + indexIn c 1 (particles (parentOf c)))
     0
 
--- a container's start goes to its own first row, a leaf on to the row behind its particle
+-- a container's start goes to its own first state, a leaf on to the state after its particle
 abbrev startOf : ℕ → ℕ → ℕ → ℕ
 startOf c d place =
     cond (eqb place 0) 0
-    (cond (leb d class.lastContainer) (firstRow d) (firstRow c + place))
+    (cond (leb d class.lastContainer) (firstState d) (firstState c + place))
 
-unfoldable pub nextIn : ℕ → ℕ → ℕ → ℕ
+abbrev pub nextIn : ℕ → ℕ → ℕ → ℕ
 nextIn c k d = cond (eqb d 0) (endOf c k) (startOf c d (follows k d 1 (particles c)))
 
--- "For each container a fixed table says which element may follow which": the row behind an element's start (class 0: behind the container's end),
+-- "For each container a fixed table says which element may follow which": the state after an element's start (class 0: after the container's end),
 -- 0 where it may not stand
 unfoldable pub nextOf : ℕ → ℕ → ℕ
-nextOf row d =
-    cond (ltb row rows && ltb d classes && not (eqb row 0))
-    (nextIn (containerOf row) (row - firstRow (containerOf row)) d)
+nextOf state d =
+    cond (ltb state states && ltb d classes && not (eqb state 0))
+    (nextIn (containerOf state) (state - firstState (containerOf state)) d)
     0

@@ -13,6 +13,5 @@ pub mod ReadAll
 pub mod Demand3
 pub mod Samples3
 pub mod ReadLoop
-pub mod Choices
 pub mod Names
 pub mod Widths

@@ -11,7 +11,7 @@ use borrow.Author.Tests.{leb-true, ltb-true, not-true}
 use Rattle.text.specs.Logic.{and-left, and-right}
 use Rattle.words.specs.Duration.{isLasting}
 use Rattle.sheet.specs.declared.Part.{Part}
-use Rattle.sheet.specs.declared.Parts.the-variants.{One}
+use Rattle.sheet.specs.declared.Parts.the-variants.{OnePart}
 use Rattle.sheet.specs.declared.CapFacts.{CapFacts}
 use Rattle.sheet.specs.declared.WarnFacts.{WarnFacts}
 use Rattle.sheet.specs.Sheet.{cap, warn, isNameByte, allNameBytes, holdsCdataEnd, isName, isLastingTime, isParts, fitsPacket, inRange}
@@ -61,7 +61,7 @@ pub record PartRange (p : Part) : Type 0 where
   pub total : p .total ≤ 16
   pub lasting : isLastingTime (p .lasting) ≡ true
 
-pub part-range : (p : Part) → isParts (One p) ≡ true → PartRange p
+pub part-range : (p : Part) → isParts (OnePart p) ≡ true → PartRange p
 unfolding isParts
 part-range p e =
     let h = and-four (leb 1 (p .number)) (leb (p .number) (p .total)) (leb (p .total) 16) (isLastingTime (p .lasting)) e in

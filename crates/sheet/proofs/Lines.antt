@@ -37,8 +37,8 @@ module _ (x : Sheet) (rest : List ℕ) (h : inRange x ≡ true) where
   unfolding lineLength
   line-length = ap (λ (y : Sheet). length (sentence y)) (sheet-of-sentence x rest h)
 
-  pub behind-line : drop (lineLength (sentence x ++ rest)) (sentence x ++ rest) ≡ rest
-  behind-line = rw line-length (drop-append-seam (sentence x) rest)
+  pub after-line : drop (lineLength (sentence x ++ rest)) (sentence x ++ rest) ≡ rest
+  after-line = rw line-length (drop-append-seam (sentence x) rest)
 
 -- ---- a read-back leads a text
 

@@ -18,7 +18,7 @@ use Rattle.sheet.specs.Reading.{foundAt, sheetIn, sheetOf, isLine}
 use Rattle.sheet.specs.Answers.{sheets, stops, followedBy, lineLength, contentsFrom, contentsOf, pick, asked, readBack}
 use Rattle.sheet.specs.Demand.{sentences, allInRange, Reads, Refuses, IsReadBacks}
 use Rattle.sheet.proofs.ReadSentence.{found-at, sheet-of-sentence}
-use Rattle.sheet.proofs.Lines.{sentence-some, is-line, line-length, behind-line, line-range, line-split, line-some, not-line}
+use Rattle.sheet.proofs.Lines.{sentence-some, is-line, line-length, after-line, line-range, line-split, line-some, not-line}
 use Rattle.sheet.proofs.Contents.{contents-on, contents-stop, contents-end}
 
 -- ---- texts of whole read-backs
@@ -40,7 +40,7 @@ contents-sentences i (x ∷ xs) v =
     let h = and-left (inRange x) (allInRange xs) v in
     let r = sentences xs in
     contents-on i (sentence x ++ r) (is-line x r h)
-    ∙ rw (behind-line x r h, line-length x r h)
+    ∙ rw (after-line x r h, line-length x r h)
     (ap (followedBy (foundAt i (sentence x ++ r))) (contents-sentences (i + length (sentence x)) xs (and-right (inRange x) (allInRange xs) v)))
 
 -- each of them is the sheet that was written
@@ -119,7 +119,7 @@ sentences-injective (x ∷ xs) (y ∷ ys) v w e =
 
 -- ---- any text
 
--- the text t, which stands at place i, stops behind the sentences of front
+-- the text t, which stands at place i, stops after the sentences of front
 record Stopped (i : ℕ) (t : List ℕ) : Type 0 where
   pub front : List Sheet
   pub rest : List ℕ

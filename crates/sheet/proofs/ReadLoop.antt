@@ -16,7 +16,7 @@ use Rattle.sheet.specs.Reading.{foundAt, isLine}
 use Rattle.sheet.specs.Answers.{Contents, sheets, stops, followedBy, lineLength, pick, asked, readBack}
 use Rattle.sheet.proofs.Contents.{contentsAt, turn-start, turn-end, turn-on, turn-stop}
 
--- the reader's answer where it was asked for k, is behind n read-backs, keeps f as the one asked for if that is among them, and has the contents still to read
+-- the reader's answer where it was asked for k, is after n read-backs, keeps f as the one asked for if that is among them, and has the contents still to read
 unfoldable pub resumed : ℕ → ℕ → Found → Contents → ReadBack
 resumed k n f (sheets fs) =
     cond (eqb k 0)
@@ -64,7 +64,7 @@ module _ (k n : ℕ) (f g : Found) where
       let j : k - (n + 1) ≡ 0 = omega arith in
       rw (m, ne-eqb k 0 (λ z. omega arith), lt-leb k n (omega arith), le-leb k (n + 1) (omega arith), j)
 
--- ---- the loop at the place i, with n read-backs behind it
+-- ---- the loop at the place i, with n read-backs after it
 
 module _ (t : List ℕ) (k : ℕ) where
   pub loop-start : (f : Found) → resumed k 0 f (contentsAt t 0) ≡ readBack t k

@@ -2,41 +2,74 @@
 use mathlib.Core.Path.{_≡_, refl, sym, ap, ap₂, _∙_}
 use mathlib.Core.Bool.{true, false}
 use mathlib.Core.List.{List, [], _++_, append-nil}
-use Prim.Native.Nat.{ℕ, _+_}
-use lib.ListN.{take, drop}
+use Prim.Native.Nat.{ℕ, _+_, _-_, _≤_}
+use native.Mathlib.Omega.{arith}
+use lib.Dec.{leb}
+use lib.ListN.{length, take, drop, length-drop, drop-of-length-le}
 use lib.Seq.{drop-drop}
+use borrow.Author.Tests.{leb-true, leb-false}
 use Rattle.text.specs.Ascii.{ascii}
 use Rattle.text.specs.Logic.{by-test}
 use Rattle.sheet.specs.declared.CapFacts.{CapFacts}
 use Rattle.sheet.specs.declared.WarnFacts.{WarnFacts}
 use Rattle.text.specs.Parts.{startsWith}
+use Rattle.words.specs.Reading.{numberAt, durationAt}
 use Rattle.sheet.specs.Sheet.{Sheet, cap, warn, inRange}
 use Rattle.sheet.specs.Sentence.{plain, capText, warnText, sentenceIn, sentence}
-use Rattle.sheet.specs.Reading.{wordLength, wordOf, behind, fromMessage, fromStatus, fromScope, fromSender, fromName, senderAt, nameAt, capOf, warnOf, foundAt, sheetIn, sheetOf}
+use Rattle.sheet.specs.Reading.{wordLength, wordOf, afterWord, restAfter, restAfterAll, fromPeriod, fromHazard, fromMessage, fromStatus, fromScope, fromSender, fromName, indexIn, capOf, warnOf, foundAt, sheetIn, sheetOf}
 use Rattle.sheet.proofs.Limits.{cap-range, warn-range}
 use Rattle.sheet.proofs.ReadCap.{cap-read}
 use Rattle.sheet.proofs.ReadWarn.{warn-read}
 
 -- ---- where the sender and the name stand
 
--- the text behind a word and k bytes more, by its place
-behind-at : (k n : ℕ) (l a : List ℕ) → drop n l ≡ a → drop (n + (wordLength a + k)) l ≡ behind k a
-unfolding behind
-behind-at k n l a e = sym (drop-drop (wordLength a + k) n l) ∙ ap (drop (wordLength a + k)) e
+-- the rest of a text, by its place
+pub record Rest (rest l : List ℕ) : Type 0 where
+  pub from : ℕ
+  pub is : rest ≡ drop from l
+
+pub rest-drop : (k : ℕ) (rest l : List ℕ) → Rest rest l → Rest (drop k rest) l
+rest-drop k rest l r = record { from = r .from + k; is = ap (drop k) (r .is) ∙ drop-drop k (r .from) l }
+
+pub rest-le : (rest l : List ℕ) → Rest rest l → length rest ≤ length l
+rest-le rest l r = omega (arith, ap length (r .is) ∙ length-drop (r .from) l)
+
+pub rest-offset : (rest l : List ℕ) → Rest rest l → drop (indexIn l rest) l ≡ rest
+rest-offset rest l r =
+    by-test (leb (r .from) (length l))
+    (λ e. let k = ap length (r .is) ∙ length-drop (r .from) l in let z : indexIn l rest ≡ r .from = omega (arith, leb-true (r .from) (length l) e) in rw z (sym (r .is)))
+    (λ e.
+    let h = leb-false (r .from) (length l) e in
+    let n : rest ≡ [] = r .is ∙ drop-of-length-le l {i = r .from} (omega arith) in
+    rw n (drop-of-length-le l {i = length l - 0} (omega arith)))
 
 module _ (l : List ℕ) where
-  pub sender-at : drop (senderAt l) l ≡ fromSender l
-  unfolding senderAt fromStatus fromScope fromSender
-  sender-at = behind-at 7 _ l (fromScope l) (behind-at 2 _ l (fromStatus l) (behind-at 2 4 l (fromMessage l) refl))
+  after-rest : (k : ℕ) (a : List ℕ) → Rest a l → Rest (afterWord k a) l
+  unfolding afterWord
+  after-rest k a r = rest-drop k (drop (wordLength a) a) l (rest-drop (wordLength a) a l r)
 
-  pub name-at : drop (nameAt l) l ≡ fromName l
-  unfolding nameAt fromName
-  name-at = behind-at 7 (senderAt l) l (fromSender l) sender-at
+  pub sender-rest : Rest (fromSender l) l
+  unfolding fromStatus fromScope fromSender
+  sender-rest = after-rest 7 (fromScope l) (after-rest 2 (fromStatus l) (after-rest 2 (fromMessage l) (record { from = 4; is = refl })))
+
+  pub name-rest : Rest (fromName l) l
+  unfolding fromName
+  name-rest = after-rest 7 (fromSender l) sender-rest
+
+  number-rest : (k : ℕ) (a : List ℕ) → Rest a l → Rest (restAfter k a) l
+  unfolding restAfter
+  number-rest k a r = rest-drop (numberAt 0 (drop k a) .end) (drop k a) l (rest-drop k a l r)
+
+  pub hazard-rest : Rest (fromHazard l) l
+  unfolding fromHazard fromPeriod restAfterAll
+  hazard-rest =
+      rest-drop (durationAt 0 (fromPeriod l) .end) (fromPeriod l) l
+      (rest-drop 7 _ l (number-rest 8 _ (number-rest 8 _ (number-rest 7 l (record { from = 0; is = refl })))))
 
 -- ---- what is found, by the kind of its sheet
 
 module _ (i : ℕ) (t : List ℕ) where
-  -- a word that stands k bytes behind the place i
+  -- a word that stands k bytes after the place i
   span-at : (k : ℕ) (a : List ℕ) → drop k (drop i t) ≡ a → take (wordLength a) (drop (i + k) t) ≡ wordOf a
   unfolding wordOf
   span-at k a e = ap (take (wordLength a)) (sym (drop-drop k i t) ∙ e)
@@ -53,7 +86,7 @@ module _ (i : ℕ) (t : List ℕ) where
   found-cap e =
       let l = drop i t in
       rw e
-      (ap₂ (cap (capOf l)) (span-at (senderAt l) (fromSender l) (sender-at l)) (span-at (nameAt l) (fromName l) (name-at l)))
+      (ap₂ (cap (capOf l)) (span-at (indexIn l (fromSender l)) (fromSender l) (rest-offset (fromSender l) l (sender-rest l))) (span-at (indexIn l (fromName l)) (fromName l) (rest-offset (fromName l) l (name-rest l))))
 
 -- from the start of a text
 pub sheet-warn : (l : List ℕ) → startsWith (ascii "warn") l ≡ true → sheetOf l ≡ warn (warnOf l)

@@ -8,13 +8,13 @@ use native.Mathlib.Nat.{add-zero, add-assoc}
 use lib.ListN.{length, take, drop, length-append, length-take, length-drop, take-append-drop}
 use lib.Seq.{drop-append-add, take-at, drop-at, drop-drop, length-take-le}
 use borrow.Author.Tests.{leb-true, le-leb, lt-leb}
-use Rattle.text.specs.Buffer.{written}
+use Rattle.buffer.specs.Writing.{written}
 use Rattle.text.specs.Logic.{by-test, and-left, and-right}
-use Rattle.sheet.specs.declared.Wrote.the-variants.{End, OutOfRange, NoRoom}
+use Rattle.sheet.specs.declared.WriteSheet.the-variants.{End, OutOfRange, NoRoom}
 use Rattle.sheet.specs.Sheet.{Sheet, inRange}
 use Rattle.sheet.specs.Sentence.{sentence}
-use Rattle.sheet.specs.Answers.{hasRoom, isWritten, wrote, after}
-use Rattle.sheet.specs.Demand.{place}
+use Rattle.sheet.specs.Answers.{hasRoom, isWritable, writeSheet, after}
+use Rattle.sheet.specs.Demand.{nextStart}
 
 -- ---- bytes written into a buffer
 
@@ -27,7 +27,7 @@ module _ (d : List ℕ) (at : ℕ) where
   unfolding written
   written-nil = rw add-zero (take-append-drop at d)
 
-  -- two writes one behind the other are one
+  -- two writes one after the other are one
   pub written-then : (s t : List ℕ) → at + length s ≤ length d → written (written d at s) (at + length s) t ≡ written d at (s ++ t)
   unfolding written
   written-then s t h =
@@ -49,48 +49,48 @@ module _ (d : List ℕ) (at : ℕ) where
 -- ---- one write
 
 module _ (d : List ℕ) (at : ℕ) (x : Sheet) where
-  pub after-written : isWritten d at x ≡ true → after d at x ≡ written d at (sentence x)
+  pub after-written : isWritable d at x ≡ true → after d at x ≡ written d at (sentence x)
   unfolding after
   after-written e = rw e
 
-  pub place-written : isWritten d at x ≡ true → place d at x ≡ at + length (sentence x)
-  unfolding place
-  place-written e = rw e
+  pub start-written : isWritable d at x ≡ true → nextStart d at x ≡ at + length (sentence x)
+  unfolding nextStart
+  start-written e = rw e
 
-  pub after-refused : isWritten d at x ≡ false → after d at x ≡ d
+  pub after-refused : isWritable d at x ≡ false → after d at x ≡ d
   unfolding after
   after-refused e = rw e
 
-  pub place-refused : isWritten d at x ≡ false → place d at x ≡ at
-  unfolding place
-  place-refused e = rw e
+  pub start-refused : isWritable d at x ≡ false → nextStart d at x ≡ at
+  unfolding nextStart
+  start-refused e = rw e
 
-  pub written-range : isWritten d at x ≡ true → inRange x ≡ true
-  unfolding isWritten
+  pub written-range : isWritable d at x ≡ true → inRange x ≡ true
+  unfolding isWritable
   written-range e = and-left (inRange x) (hasRoom d at x) e
 
-  pub written-room : isWritten d at x ≡ true → at + length (sentence x) ≤ length d
-  unfolding isWritten
+  pub written-room : isWritable d at x ≡ true → at + length (sentence x) ≤ length d
+  unfolding isWritable
   written-room e = leb-true (at + length (sentence x)) (length d) (and-right (inRange x) (hasRoom d at x) e)
 
-  -- behind the buffer's end nothing is written
-  pub past-refused : length d < at → isWritten d at x ≡ false
-  unfolding isWritten
+  -- after the buffer's end nothing is written
+  pub past-refused : length d < at → isWritable d at x ≡ false
+  unfolding isWritable
   past-refused h =
-      by-test (inRange x) (λ e. rw (isWritten, e) (lt-leb (at + length (sentence x)) (length d) (omega arith))) (λ e. rw (isWritten, e))
+      by-test (inRange x) (λ e. rw (isWritable, e) (lt-leb (at + length (sentence x)) (length d) (omega arith))) (λ e. rw (isWritable, e))
 
   -- ---- the answer and the buffer by the cases of the ranges and the room
 
-  pub refuse-range : inRange x ≡ false → (wrote d at x ≡ OutOfRange) × (after d at x ≡ d)
-  unfolding wrote after isWritten
+  pub refuse-range : inRange x ≡ false → (writeSheet d at x ≡ OutOfRange) × (after d at x ≡ d)
+  unfolding writeSheet after isWritable
   refuse-range e = (rw e, rw e)
 
-  pub refuse-room : inRange x ≡ true → length d < at + length (sentence x) → (wrote d at x ≡ NoRoom) × (after d at x ≡ d)
-  unfolding wrote after isWritten
+  pub refuse-room : inRange x ≡ true → length d < at + length (sentence x) → (writeSheet d at x ≡ NoRoom) × (after d at x ≡ d)
+  unfolding writeSheet after isWritable
   refuse-room e h = let r = lt-leb (at + length (sentence x)) (length d) h in (rw (e, r), rw (e, r))
 
   pub write-end :
       inRange x ≡ true → at + length (sentence x) ≤ length d
-      → (wrote d at x ≡ End (at + length (sentence x))) × (after d at x ≡ written d at (sentence x))
-  unfolding wrote after isWritten
+      → (writeSheet d at x ≡ End (at + length (sentence x))) × (after d at x ≡ written d at (sentence x))
+  unfolding writeSheet after isWritable
   write-end e h = let r = le-leb (at + length (sentence x)) (length d) h in (rw (e, r), rw (e, r))

@@ -4,10 +4,10 @@ use mathlib.Core.List.{List, [], _∷_, _++_}
 use Prim.Native.Nat.{ℕ, zero, suc, _+_}
 use lib.Dec.{leb}
 use lib.ListN.{length, drop}
-use Rattle.text.specs.Buffer.{written}
+use Rattle.buffer.specs.Writing.{written}
 use Rattle.sheet.specs.declared.Found.{Found}
-use Rattle.sheet.specs.declared.Wrote.{Wrote}
-use Rattle.sheet.specs.declared.Wrote.the-variants.{End, OutOfRange, NoRoom}
+use Rattle.sheet.specs.declared.WriteSheet.{WriteSheet}
+use Rattle.sheet.specs.declared.WriteSheet.the-variants.{End, OutOfRange, NoRoom}
 use Rattle.sheet.specs.declared.ReadBack.{ReadBack}
 use Rattle.sheet.specs.declared.ReadBack.the-variants as readback
 use Rattle.sheet.specs.Sheet.{Sheet, inRange}
@@ -17,14 +17,14 @@ use Rattle.sheet.specs.Reading.{sheetOf, isLine, foundAt}
 -- a refusal's number and place
 pub record Refusal : Type 0 where
   pub number : ℕ
-  pub place : ℕ
+  pub offset : ℕ
 
 pub data Outcome : Type 0 where
   done : Outcome
   refused : Refusal → Outcome
 
 abbrev pub refusedWith : ℕ → ℕ → Outcome
-refusedWith n p = refused (record { number = n; place = p })
+refusedWith n p = refused (record { number = n; offset = p })
 
 -- ---- "Writing a sheet: 23, 13."
 
@@ -32,19 +32,19 @@ refusedWith n p = refused (record { number = n; place = p })
 abbrev pub hasRoom : List ℕ → ℕ → Sheet → Bool
 hasRoom d at x = leb (at + length (sentence x)) (length d)
 
-unfoldable pub isWritten : List ℕ → ℕ → Sheet → Bool
-isWritten d at x = inRange x && hasRoom d at x
+unfoldable pub isWritable : List ℕ → ℕ → Sheet → Bool
+isWritable d at x = inRange x && hasRoom d at x
 
 -- the answer to writing the sheet x into the buffer d from the place at
-unfoldable pub wrote : List ℕ → ℕ → Sheet → Wrote
-wrote d at x = cond (inRange x) (cond (hasRoom d at x) (End (at + length (sentence x))) NoRoom) OutOfRange
+unfoldable pub writeSheet : List ℕ → ℕ → Sheet → WriteSheet
+writeSheet d at x = cond (inRange x) (cond (hasRoom d at x) (End (at + length (sentence x))) NoRoom) OutOfRange
 
 -- what the buffer then holds
 unfoldable pub after : List ℕ → ℕ → Sheet → List ℕ
-after d at x = cond (isWritten d at x) (written d at (sentence x)) d
+after d at x = cond (isWritable d at x) (written d at (sentence x)) d
 
 -- document 01's number and place for each answer
-abbrev pub writeOutcome : Wrote → Outcome
+abbrev pub writeOutcome : WriteSheet → Outcome
 writeOutcome (End e) = done
 writeOutcome OutOfRange = refusedWith 23 0
 writeOutcome NoRoom = refusedWith 13 0

@@ -5,38 +5,38 @@ use mathlib.Core.List.{List, [], _∷_, _++_}
 use mathlib.Core.Logic.{_⊎_}
 use Prim.Native.Nat.{ℕ, suc, _+_, _-_, _<_, _≤_}
 use lib.ListN.{length, take, drop, getD}
-use Rattle.text.specs.Buffer.{written}
+use Rattle.buffer.specs.Writing.{written}
 use Rattle.sheet.specs.declared.Found.{Found}
 use Rattle.sheet.specs.declared.ReadBack.the-variants as readback
 use Rattle.sheet.specs.Sheet.{Sheet, inRange}
 use Rattle.sheet.specs.Sentence.{sentence}
 use Rattle.sheet.specs.Reading.{sheetIn}
-use Rattle.sheet.specs.Answers.{isWritten, after, readBack}
+use Rattle.sheet.specs.Answers.{isWritable, after, readBack}
 
--- ---- a list of writes, one behind the other
+-- ---- a list of writes, one after the other
 
 -- "Each write starts where the last sentence ended, or, after a refusal, from the same start."
-unfoldable pub place : List ℕ → ℕ → Sheet → ℕ
-place d at x = cond (isWritten d at x) (at + length (sentence x)) at
+unfoldable pub nextStart : List ℕ → ℕ → Sheet → ℕ
+nextStart d at x = cond (isWritable d at x) (at + length (sentence x)) at
 
 -- the buffer after all writes, the end of the last sentence, and the sheets that were not refused at their turn, in their order
 unfoldable pub afterAll : List Sheet → List ℕ → ℕ → List ℕ
 afterAll [] d at = d
-afterAll (x ∷ xs) d at = afterAll xs (after d at x) (place d at x)
+afterAll (x ∷ xs) d at = afterAll xs (after d at x) (nextStart d at x)
 
-unfoldable pub placeAll : List Sheet → List ℕ → ℕ → ℕ
-placeAll [] d at = at
-placeAll (x ∷ xs) d at = placeAll xs (after d at x) (place d at x)
+unfoldable pub lastEnd : List Sheet → List ℕ → ℕ → ℕ
+lastEnd [] d at = at
+lastEnd (x ∷ xs) d at = lastEnd xs (after d at x) (nextStart d at x)
 
-unfoldable pub writtenOf : List Sheet → List ℕ → ℕ → List Sheet
-writtenOf [] d at = []
-writtenOf (x ∷ xs) d at = cond (isWritten d at x) (x ∷ []) [] ++ writtenOf xs (after d at x) (place d at x)
+unfoldable pub sheetsWritten : List Sheet → List ℕ → ℕ → List Sheet
+sheetsWritten [] d at = []
+sheetsWritten (x ∷ xs) d at = cond (isWritable d at x) (x ∷ []) [] ++ sheetsWritten xs (after d at x) (nextStart d at x)
 
 -- "the text, from the first start to the end of the last sentence"
-unfoldable pub textOf : List Sheet → List ℕ → ℕ → List ℕ
-textOf xs d at = take (placeAll xs d at - at) (drop at (afterAll xs d at))
+unfoldable pub textWritten : List Sheet → List ℕ → ℕ → List ℕ
+textWritten xs d at = take (lastEnd xs d at - at) (drop at (afterAll xs d at))
 
--- the sentences of sheets, one behind the other
+-- the sentences of sheets, one after the other
 unfoldable pub sentences : List Sheet → List ℕ
 sentences [] = []
 sentences (x ∷ xs) = sentence x ++ sentences xs
@@ -48,11 +48,11 @@ allInRange (x ∷ xs) = inRange x && allInRange xs
 -- ---- the statement
 
 -- the text is the read-backs of exactly the sheets that are not refused, in their order; "The rest of the buffer is untouched."
-pub record Writes (xs : List Sheet) (d : List ℕ) (at : ℕ) : Type 0 where
-  pub text : textOf xs d at ≡ sentences (writtenOf xs d at)
-  pub buffer : afterAll xs d at ≡ written d at (sentences (writtenOf xs d at))
-  pub end : placeAll xs d at ≡ at + length (sentences (writtenOf xs d at))
-  pub sound : allInRange (writtenOf xs d at) ≡ true
+pub record WritesList (xs : List Sheet) (d : List ℕ) (at : ℕ) : Type 0 where
+  pub text : textWritten xs d at ≡ sentences (sheetsWritten xs d at)
+  pub buffer : afterAll xs d at ≡ written d at (sentences (sheetsWritten xs d at))
+  pub end : lastEnd xs d at ≡ at + length (sentences (sheetsWritten xs d at))
+  pub sound : allInRange (sheetsWritten xs d at) ≡ true
 
 -- reading a text of whole read-backs: their number, each of them, and none past the last
 pub record Reads (xs : List Sheet) : Type 0 where
@@ -78,11 +78,11 @@ IsReadBacks t = (xs : List Sheet) × ((allInRange xs ≡ true) × (t ≡ sentenc
 
 pub record Demand3 : Type 0 where
   -- every list of writes
-  pub writes : (xs : List Sheet) (d : List ℕ) (at : ℕ) → Writes xs d at
+  pub writes : (xs : List Sheet) (d : List ℕ) (at : ℕ) → WritesList xs d at
   -- any two such lists with equal texts wrote the same sheets
   pub same :
-      (xs ys : List Sheet) (d e : List ℕ) (at start : ℕ) → textOf xs d at ≡ textOf ys e start
-      → writtenOf xs d at ≡ writtenOf ys e start
+      (xs ys : List Sheet) (d e : List ℕ) (at start : ℕ) → textWritten xs d at ≡ textWritten ys e start
+      → sheetsWritten xs d at ≡ sheetsWritten ys e start
   -- the reader, on texts of whole read-backs
   pub reads : (xs : List Sheet) → allInRange xs ≡ true → Reads xs
   -- and on any bytes: whole read-backs, or refused, and never both

@@ -1,5 +1,3 @@
-pub mod Codes
-pub mod CodePlaces
 pub mod Sheet
 pub mod Sentence
 pub mod Reading

@@ -1,30 +1,27 @@
 -- Reading a sentence. It is read loosely first: literals are passed over by their length, and nothing is checked. The text is a read-back exactly where it starts with the sentence of what was read, and that is in range; proofs/ has the laws that make this reading exact.
-use mathlib.Core.Bool.{Bool, true, false, cond, _&&_}
-use mathlib.Core.List.{List, [], _∷_}
-use Prim.Native.Nat.{ℕ, zero, suc, _+_, _%_}
+use mathlib.Core.Bool.{Bool, true, false, cond, _&&_, not}
+use mathlib.Core.List.{List, [], _∷_, _++_}
+use Prim.Native.Nat.{ℕ, zero, suc, _+_, _-_, _%_}
 use Prim.Native.Char.{code}
 use lib.Dec.{eqb}
 use lib.ListN.{length, take, drop, getD}
+use Rattle.text.specs.Bytes.{leading}
 use Rattle.text.specs.Ascii.{ascii}
-use Rattle.text.specs.Logic.{eql}
+use Rattle.codes.specs.Lists as list
+use Rattle.codes.specs.Lists.{smallCodeOf}
+use Rattle.codes.specs.Values.{messageAt, statusAt, scopeAt, urgencyAt, severityAt, certaintyAt}
 use Rattle.words.specs.Reading.{numberAt, durationAt}
-use Rattle.sheet.specs.declared.MessageType.{MessageType}
-use Rattle.sheet.specs.declared.MessageType.the-variants as message
-use Rattle.sheet.specs.declared.Status.{Status}
-use Rattle.sheet.specs.declared.Status.the-variants as status
-use Rattle.sheet.specs.declared.Scope.{Scope}
-use Rattle.sheet.specs.declared.Scope.the-variants as scope
-use Rattle.sheet.specs.declared.Urgency.{Urgency}
-use Rattle.sheet.specs.declared.Urgency.the-variants as urgency
-use Rattle.sheet.specs.declared.Severity.{Severity}
-use Rattle.sheet.specs.declared.Severity.the-variants as severity
-use Rattle.sheet.specs.declared.Certainty.{Certainty}
-use Rattle.sheet.specs.declared.Certainty.the-variants as certainty
+use Rattle.codes.specs.declared.MessageType.{MessageType}
+use Rattle.codes.specs.declared.Status.{Status}
+use Rattle.codes.specs.declared.Scope.{Scope}
+use Rattle.codes.specs.declared.Urgency.{Urgency}
+use Rattle.codes.specs.declared.Severity.{Severity}
+use Rattle.codes.specs.declared.Certainty.{Certainty}
 use Rattle.sheet.specs.declared.Lasting.{Lasting}
 use Rattle.sheet.specs.declared.Lasting.the-variants.{Unstated, Seconds}
 use Rattle.sheet.specs.declared.Part.{Part}
 use Rattle.sheet.specs.declared.Parts.{Parts}
-use Rattle.sheet.specs.declared.Parts.the-variants.{Nothing, One}
+use Rattle.sheet.specs.declared.Parts.the-variants.{NoPart, OnePart}
 use Rattle.sheet.specs.declared.CapFacts.{CapFacts}
 use Rattle.sheet.specs.declared.WarnFacts.{WarnFacts}
 use Rattle.sheet.specs.declared.Span.{Span}
@@ -39,35 +36,55 @@ use Rattle.sheet.specs.Sentence.{sentence}
 -- ---- a word: the bytes to the next comma
 
 unfoldable pub wordLength : List ℕ → ℕ
-wordLength [] = 0
-wordLength (b ∷ l) = cond (eqb b (code ",")) 0 (suc (wordLength l))
+wordLength l = leading (λ b. not (eqb b (code ","))) l
 
 unfoldable pub wordOf : List ℕ → List ℕ
 wordOf l = take (wordLength l) l
 
--- the text behind the word and k bytes more
-unfoldable pub behind : ℕ → List ℕ → List ℕ
-behind k l = drop (wordLength l + k) l
+-- the text after the word and k bytes more
+unfoldable pub afterWord : ℕ → List ℕ → List ℕ
+afterWord k l = drop k (drop (wordLength l) l)
 
--- ---- codes: the last one stands for every other word too
+-- ---- numbers
 
-unfoldable pub messageOf : List ℕ → MessageType
-messageOf w = cond (eql w (ascii "alert")) message.Alert (cond (eql w (ascii "update")) message.Update (cond (eql w (ascii "cancel")) message.Cancel (cond (eql w (ascii "ack")) message.Ack message.Error)))
+-- the number after a literal of k bytes, and the text after that number
+unfoldable pub numberAfter : ℕ → List ℕ → ℕ
+numberAfter k l = numberAt 0 (drop k l) .value
 
-unfoldable pub statusOf : List ℕ → Status
-statusOf w = cond (eql w (ascii "actual")) status.Actual (cond (eql w (ascii "exercise")) status.Exercise (cond (eql w (ascii "system")) status.System (cond (eql w (ascii "test")) status.Test status.Draft)))
+unfoldable pub restAfter : ℕ → List ℕ → List ℕ
+restAfter k l = drop (numberAt 0 (drop k l) .end) (drop k l)
 
-unfoldable pub scopeOf : List ℕ → Scope
-scopeOf w = cond (eql w (ascii "public")) scope.Public (cond (eql w (ascii "restricted")) scope.Restricted scope.Private)
+abbrev pub byteOf : ℕ → ℕ
+byteOf n = n % 0x100
 
-unfoldable pub urgencyOf : List ℕ → Urgency
-urgencyOf w = cond (eql w (ascii "immediate")) urgency.Immediate (cond (eql w (ascii "expected")) urgency.Expected (cond (eql w (ascii "future")) urgency.Future (cond (eql w (ascii "past")) urgency.Past urgency.Unknown)))
+-- the numbers after names, ", event seven, number two", and the text after them all
+unfoldable pub numbersAfter : List (List ℕ) → List ℕ → List ℕ
+numbersAfter [] l = []
+numbersAfter (w ∷ ws) l = numberAfter (length (ascii ", " ++ w)) l ∷ numbersAfter ws (restAfter (length (ascii ", " ++ w)) l)
 
-unfoldable pub severityOf : List ℕ → Severity
-severityOf w = cond (eql w (ascii "extreme")) severity.Extreme (cond (eql w (ascii "severe")) severity.Severe (cond (eql w (ascii "moderate")) severity.Moderate (cond (eql w (ascii "minor")) severity.Minor severity.Unknown)))
+unfoldable pub restAfterAll : List (List ℕ) → List ℕ → List ℕ
+restAfterAll [] l = l
+restAfterAll (w ∷ ws) l = restAfterAll ws (restAfter (length (ascii ", " ++ w)) l)
 
-unfoldable pub certaintyOf : List ℕ → Certainty
-certaintyOf w = cond (eql w (ascii "observed")) certainty.Observed (cond (eql w (ascii "likely")) certainty.Likely (cond (eql w (ascii "possible")) certainty.Possible (cond (eql w (ascii "unlikely")) certainty.Unlikely certainty.Unknown)))
+-- ---- codes: any other word is read as the last of its list
+
+abbrev pub messageOf : List ℕ → MessageType
+messageOf w = messageAt (smallCodeOf list.msgType w)
+
+abbrev pub statusOf : List ℕ → Status
+statusOf w = statusAt (smallCodeOf list.status w)
+
+abbrev pub scopeOf : List ℕ → Scope
+scopeOf w = scopeAt (smallCodeOf list.scope w)
+
+abbrev pub urgencyOf : List ℕ → Urgency
+urgencyOf w = urgencyAt (smallCodeOf list.urgency w)
+
+abbrev pub severityOf : List ℕ → Severity
+severityOf w = severityAt (smallCodeOf list.severity w)
+
+abbrev pub certaintyOf : List ℕ → Certainty
+certaintyOf w = certaintyAt (smallCodeOf list.certainty w)
 
 -- ---- a CAP sentence, from its start
 
@@ -76,53 +93,47 @@ abbrev pub fromMessage : List ℕ → List ℕ
 fromMessage l = drop (length (ascii "cap ")) l
 
 unfoldable pub fromStatus : List ℕ → List ℕ
-fromStatus l = behind (length (ascii ", ")) (fromMessage l)
+fromStatus l = afterWord (length (ascii ", ")) (fromMessage l)
 
 unfoldable pub fromScope : List ℕ → List ℕ
-fromScope l = behind (length (ascii ", ")) (fromStatus l)
+fromScope l = afterWord (length (ascii ", ")) (fromStatus l)
 
 unfoldable pub fromSender : List ℕ → List ℕ
-fromSender l = behind (length (ascii ", from ")) (fromScope l)
+fromSender l = afterWord (length (ascii ", from ")) (fromScope l)
 
 unfoldable pub fromName : List ℕ → List ℕ
-fromName l = behind (length (ascii ", name ")) (fromSender l)
+fromName l = afterWord (length (ascii ", name ")) (fromSender l)
 
 unfoldable pub fromParts : List ℕ → List ℕ
-fromParts l = behind 0 (fromName l)
+fromParts l = afterWord 0 (fromName l)
 
--- where the sender and the name stand
-unfoldable pub senderAt : List ℕ → ℕ
-senderAt l = length (ascii "cap ") + (wordLength (fromMessage l) + length (ascii ", ")) + (wordLength (fromStatus l) + length (ascii ", ")) + (wordLength (fromScope l) + length (ascii ", from "))
+-- where the sender and the name stand: what stands from there on reaches to the end of the text
+abbrev pub indexIn : List ℕ → List ℕ → ℕ
+indexIn l rest = length l - length rest
 
-unfoldable pub nameAt : List ℕ → ℕ
-nameAt l = senderAt l + (wordLength (fromSender l) + length (ascii ", name "))
-
--- a part, from ", part" on
-abbrev pub fromNumber : List ℕ → List ℕ
-fromNumber l = drop (length (ascii ", part")) l
-
+-- a part, from ", part" on: from " of", the urgency, the severity, the certainty and what says how long it lasts on
 unfoldable pub fromTotal : List ℕ → List ℕ
-fromTotal l = drop (numberAt 0 (fromNumber l) .end + length (ascii " of")) (fromNumber l)
+fromTotal l = restAfter (length (ascii ", part")) l
 
 unfoldable pub fromUrgency : List ℕ → List ℕ
-fromUrgency l = drop (numberAt 0 (fromTotal l) .end + length (ascii ", ")) (fromTotal l)
+fromUrgency l = drop (length (ascii ", ")) (restAfter (length (ascii " of")) (fromTotal l))
 
 unfoldable pub fromSeverity : List ℕ → List ℕ
-fromSeverity l = behind (length (ascii ", ")) (fromUrgency l)
+fromSeverity l = afterWord (length (ascii ", ")) (fromUrgency l)
 
 unfoldable pub fromCertainty : List ℕ → List ℕ
-fromCertainty l = behind (length (ascii ", ")) (fromSeverity l)
+fromCertainty l = afterWord (length (ascii ", ")) (fromSeverity l)
 
 unfoldable pub fromLasting : List ℕ → List ℕ
-fromLasting l = behind (length (ascii ", lasts")) (fromCertainty l)
+fromLasting l = afterWord (length (ascii ", lasts")) (fromCertainty l)
 
 unfoldable pub lastingOf : List ℕ → Lasting
 lastingOf l = cond (startsWith (ascii " no ") l) Unstated (Seconds (durationAt 0 l .value))
 
 unfoldable pub partOf : List ℕ → Part
 partOf l = record {
-  number = numberAt 0 (fromNumber l) .value % 0x100;
-  total = numberAt 0 (fromTotal l) .value % 0x100;
+  number = byteOf (numberAfter (length (ascii ", part")) l);
+  total = byteOf (numberAfter (length (ascii " of")) (fromTotal l));
   urgency = urgencyOf (wordOf (fromUrgency l));
   severity = severityOf (wordOf (fromSeverity l));
   certainty = certaintyOf (wordOf (fromCertainty l));
@@ -130,7 +141,7 @@ partOf l = record {
 }
 
 unfoldable pub partsOf : List ℕ → Parts
-partsOf l = cond (startsWith (ascii ", part") l) (One (partOf l)) Nothing
+partsOf l = cond (startsWith (ascii ", part") l) (OnePart (partOf l)) NoPart
 
 unfoldable pub capOf : List ℕ → CapFacts
 capOf l = record {
@@ -143,59 +154,44 @@ capOf l = record {
 -- ---- a WARN sentence, from its start
 
 -- a flag's word is passed over where it stands
-abbrev pub behindFlag : List ℕ → List ℕ → List ℕ
-behindFlag w l = cond (startsWith w l) (drop (length w) l) l
+abbrev pub afterFlag : List ℕ → List ℕ → List ℕ
+afterFlag w l = cond (startsWith w l) (drop (length w) l) l
 
 abbrev pub fromUrgent : List ℕ → List ℕ
 fromUrgent l = drop (length (ascii "warn alert")) l
 
 unfoldable pub fromUpdate : List ℕ → List ℕ
-fromUpdate l = behindFlag (ascii " urgent") (fromUrgent l)
+fromUpdate l = afterFlag (ascii " urgent") (fromUrgent l)
 
 unfoldable pub fromCancel : List ℕ → List ℕ
-fromCancel l = behindFlag (ascii " update") (fromUpdate l)
+fromCancel l = afterFlag (ascii " update") (fromUpdate l)
 
 unfoldable pub fromTest : List ℕ → List ℕ
-fromTest l = behindFlag (ascii " cancel") (fromCancel l)
+fromTest l = afterFlag (ascii " cancel") (fromCancel l)
 
-unfoldable pub behindFlags : List ℕ → List ℕ
-behindFlags l = behindFlag (ascii " test") (fromTest l)
+unfoldable pub afterFlags : List ℕ → List ℕ
+afterFlags l = afterFlag (ascii " test") (fromTest l)
 
--- the number behind a literal of k bytes, and the text behind that number
-unfoldable pub numberBehind : ℕ → List ℕ → ℕ
-numberBehind k l = numberAt 0 (drop k l) .value
+-- from ", event" on
+abbrev pub originNames : List (List ℕ)
+originNames = ascii "event" ∷ ascii "number" ∷ ascii "origin" ∷ []
 
-unfoldable pub restBehind : ℕ → List ℕ → List ℕ
-restBehind k l = drop (numberAt 0 (drop k l) .end) (drop k l)
+abbrev pub originNumber : ℕ → List ℕ → ℕ
+originNumber i l = getD (numbersAfter originNames l) i 0
 
-unfoldable pub fromOrigin : List ℕ → List ℕ
-fromOrigin l = restBehind (length (ascii ", number")) (restBehind (length (ascii ", event")) l)
-
--- from ", lasts" on
+-- from after ", lasts" on
 unfoldable pub fromPeriod : List ℕ → List ℕ
-fromPeriod l = restBehind (length (ascii ", origin")) (fromOrigin l)
+fromPeriod l = drop (length (ascii ", lasts")) (restAfterAll originNames l)
 
 unfoldable pub fromHazard : List ℕ → List ℕ
-fromHazard l = drop (durationAt 0 (drop (length (ascii ", lasts")) (fromPeriod l)) .end) (drop (length (ascii ", lasts")) (fromPeriod l))
+fromHazard l = drop (durationAt 0 (fromPeriod l) .end) (fromPeriod l)
 
--- from ", kind", ", urgency", ", severity", ", certainty" and ", response" on
-unfoldable pub fromKind : List ℕ → List ℕ
-fromKind l = restBehind (length (ascii ", hazard")) l
+-- from ", hazard" on
+abbrev pub hazardNames : List (List ℕ)
+hazardNames = ascii "hazard" ∷ ascii "kind" ∷ ascii "urgency" ∷ ascii "severity" ∷ ascii "certainty" ∷ ascii "response" ∷ []
 
-unfoldable pub fromWarnUrgency : List ℕ → List ℕ
-fromWarnUrgency l = restBehind (length (ascii ", kind")) (fromKind l)
-
-unfoldable pub fromWarnSeverity : List ℕ → List ℕ
-fromWarnSeverity l = restBehind (length (ascii ", urgency")) (fromWarnUrgency l)
-
-unfoldable pub fromWarnCertainty : List ℕ → List ℕ
-fromWarnCertainty l = restBehind (length (ascii ", severity")) (fromWarnSeverity l)
-
-unfoldable pub fromResponse : List ℕ → List ℕ
-fromResponse l = restBehind (length (ascii ", certainty")) (fromWarnCertainty l)
-
-abbrev pub byteOf : ℕ → ℕ
-byteOf n = n % 0x100
+abbrev pub hazardByte : ℕ → List ℕ → ℕ
+hazardByte i l = byteOf (getD (numbersAfter hazardNames l) i 0)
 
 unfoldable pub warnOf : List ℕ → WarnFacts
 warnOf l = record {
@@ -203,26 +199,30 @@ warnOf l = record {
   update = startsWith (ascii " update") (fromUpdate l);
   cancel = startsWith (ascii " cancel") (fromCancel l);
   test = startsWith (ascii " test") (fromTest l);
-  event = numberBehind (length (ascii ", event")) (behindFlags l);
-  number = numberBehind (length (ascii ", number")) (restBehind (length (ascii ", event")) (behindFlags l)) % 0x1_0000;
-  origin = numberBehind (length (ascii ", origin")) (fromOrigin (behindFlags l));
-  lasting = durationAt 0 (drop (length (ascii ", lasts")) (fromPeriod (behindFlags l))) .value;
-  hazard = byteOf (numberBehind (length (ascii ", hazard")) (fromHazard (behindFlags l)));
-  kind = byteOf (numberBehind (length (ascii ", kind")) (fromKind (fromHazard (behindFlags l))));
-  urgency = byteOf (numberBehind (length (ascii ", urgency")) (fromWarnUrgency (fromHazard (behindFlags l))));
-  severity = byteOf (numberBehind (length (ascii ", severity")) (fromWarnSeverity (fromHazard (behindFlags l))));
-  certainty = byteOf (numberBehind (length (ascii ", certainty")) (fromWarnCertainty (fromHazard (behindFlags l))));
-  response = byteOf (numberBehind (length (ascii ", response")) (fromResponse (fromHazard (behindFlags l))));
+  event = originNumber 0 (afterFlags l);
+  number = originNumber 1 (afterFlags l) % 0x1_0000;
+  origin = originNumber 2 (afterFlags l);
+  lasting = durationAt 0 (fromPeriod (afterFlags l)) .value;
+  hazard = hazardByte 0 (fromHazard (afterFlags l));
+  kind = hazardByte 1 (fromHazard (afterFlags l));
+  urgency = hazardByte 2 (fromHazard (afterFlags l));
+  severity = hazardByte 3 (fromHazard (afterFlags l));
+  certainty = hazardByte 4 (fromHazard (afterFlags l));
+  response = hazardByte 5 (fromHazard (afterFlags l));
 }
 
 -- ---- a line
+
+-- the word that leads the rest of a text, which stands at place i
+abbrev pub spanAt : ℕ → List ℕ → List ℕ → Span
+spanAt i l rest = record { start = i + indexIn l rest; len = wordLength rest }
 
 -- what a text that stands at place i says, as far as it can be read
 unfoldable pub foundAt : ℕ → List ℕ → Found
 foundAt i l =
     cond (startsWith (ascii "warn") l)
     (found.Warn (warnOf l))
-    (found.Cap (capOf l) (record { start = i + senderAt l; len = wordLength (fromSender l) }) (record { start = i + nameAt l; len = wordLength (fromName l) }))
+    (found.Cap (capOf l) (spanAt i l (fromSender l)) (spanAt i l (fromName l)))
 
 abbrev pub spanIn : List ℕ → Span → List ℕ
 spanIn t s = take (s .len) (drop (s .start) t)

@@ -4,15 +4,15 @@ use mathlib.Core.Bool.{true, false}
 use Rattle.text.specs.Ascii.{ascii}
 use Rattle.words.specs.Words.{dictionary, word, spaced, ones, belowHundred, belowThousand, group, numberCodes, said}
 use Rattle.words.specs.Duration.{counted, durationCodes, lasting}
-use Rattle.sheet.specs.declared.MessageType.the-variants as message
-use Rattle.sheet.specs.declared.Status.the-variants as status
-use Rattle.sheet.specs.declared.Scope.the-variants as scope
-use Rattle.sheet.specs.declared.Urgency.the-variants as urgency
-use Rattle.sheet.specs.declared.Severity.the-variants as severity
-use Rattle.sheet.specs.declared.Certainty.the-variants as certainty
+use Rattle.codes.specs.declared.MessageType.the-variants as message
+use Rattle.codes.specs.declared.Status.the-variants as status
+use Rattle.codes.specs.declared.Scope.the-variants as scope
+use Rattle.codes.specs.declared.Urgency.the-variants as urgency
+use Rattle.codes.specs.declared.Severity.the-variants as severity
+use Rattle.codes.specs.declared.Certainty.the-variants as certainty
 use Rattle.sheet.specs.declared.Lasting.the-variants.{Seconds}
-use Rattle.sheet.specs.declared.Parts.the-variants.{Nothing, One}
-use Rattle.sheet.specs.Codes.{messageText, statusText, scopeText, urgencyText, severityText, certaintyText}
+use Rattle.sheet.specs.declared.Parts.the-variants.{NoPart, OnePart}
+use Rattle.codes.specs.Lists.{lists, smallText}
 use Rattle.sheet.specs.Sheet.{Sheet, cap, warn}
 use Rattle.sheet.specs.Sentence.{sentence, sentenceIn, capText, partsText, partText, lastingText, warnText, flagsText, flag, originText, hazardText}
 
@@ -23,7 +23,7 @@ kilnAlert =
       message = message.Alert;
       status = status.Actual;
       scope = scope.Public;
-      parts = One (record { number = 1; total = 1; urgency = urgency.Immediate; severity = severity.Extreme; certainty = certainty.Observed; lasting = Seconds 900 });
+      parts = OnePart (record { number = 1; total = 1; urgency = urgency.Immediate; severity = severity.Extreme; certainty = certainty.Observed; lasting = Seconds 900 });
     })
     (ascii "kiln.example")
     (ascii "A17")
@@ -31,7 +31,7 @@ kilnAlert =
 abbrev pub kilnCancel : Sheet
 kilnCancel =
     cap
-    (record { message = message.Cancel; status = status.Actual; scope = scope.Public; parts = Nothing })
+    (record { message = message.Cancel; status = status.Actual; scope = scope.Public; parts = NoPart })
     (ascii "kiln.example")
     (ascii "A18")
 
@@ -56,11 +56,11 @@ warnCancel =
     })
 
 pub sample-alert : sentence kilnAlert ≡ ascii "cap alert, actual, public, from kiln.example, name A17, part one of one, immediate, extreme, observed, lasts fifteen minutes.\n"
-unfolding dictionary word spaced ones belowHundred belowThousand group numberCodes said counted durationCodes lasting messageText statusText scopeText urgencyText severityText certaintyText sentence sentenceIn capText partsText partText lastingText
+unfolding dictionary word spaced ones belowHundred belowThousand group numberCodes said counted durationCodes lasting lists smallText sentence sentenceIn capText partsText partText lastingText
 sample-alert = refl
 
 pub sample-cancel : sentence kilnCancel ≡ ascii "cap cancel, actual, public, from kiln.example, name A18, no parts.\n"
-unfolding messageText statusText scopeText sentence sentenceIn capText partsText
+unfolding lists smallText sentence sentenceIn capText partsText
 sample-cancel = refl
 
 pub sample-warn : sentence warnCancel ≡ ascii "warn alert urgent cancel, event seven, number two, origin twenty one, lasts one hour five minutes, hazard one, kind zero, urgency three, severity two, certainty one, response zero.\n"

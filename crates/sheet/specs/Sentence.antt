@@ -9,10 +9,10 @@ use Rattle.sheet.specs.declared.Lasting.{Lasting}
 use Rattle.sheet.specs.declared.Lasting.the-variants.{Unstated, Seconds}
 use Rattle.sheet.specs.declared.Part.{Part}
 use Rattle.sheet.specs.declared.Parts.{Parts}
-use Rattle.sheet.specs.declared.Parts.the-variants.{Nothing, One}
+use Rattle.sheet.specs.declared.Parts.the-variants.{NoPart, OnePart}
 use Rattle.sheet.specs.declared.CapFacts.{CapFacts}
 use Rattle.sheet.specs.declared.WarnFacts.{WarnFacts}
-use Rattle.sheet.specs.Codes.{messageText, statusText, scopeText, urgencyText, severityText, certaintyText}
+use Rattle.codes.specs.Values.{messageText, statusText, scopeText, urgencyText, severityText, certaintyText}
 use Rattle.sheet.specs.Sheet.{Sheet, cap, warn}
 
 -- A wording is what opens the sentence and how a duration is said.
@@ -39,8 +39,8 @@ module _ (w : Wording) where
       ++ (ascii ", lasts" ++ lastingText (p .lasting)))))))))))
 
   unfoldable pub partsText : Parts → List ℕ
-  partsText Nothing = ascii ", no parts"
-  partsText (One p) = partText p
+  partsText NoPart = ascii ", no parts"
+  partsText (OnePart p) = partText p
 
   unfoldable pub capText : CapFacts → List ℕ → List ℕ → List ℕ
   capText f sender name =
@@ -82,3 +82,7 @@ module _ (w : Wording) where
 -- a sheet's sentence in document 01's wording, its newline included
 unfoldable pub sentence : Sheet → List ℕ
 sentence x = sentenceIn plain x
+
+-- no sentence of a sheet in range is longer, its newline included
+abbrev pub longest : ℕ
+longest = 739

@@ -12,7 +12,7 @@ use Rattle.sheet.specs.declared.Lasting.{Lasting}
 use Rattle.sheet.specs.declared.Lasting.the-variants.{Unstated, Seconds}
 use Rattle.sheet.specs.declared.Part.{Part}
 use Rattle.sheet.specs.declared.Parts.{Parts}
-use Rattle.sheet.specs.declared.Parts.the-variants.{Nothing, One}
+use Rattle.sheet.specs.declared.Parts.the-variants.{NoPart, OnePart}
 use Rattle.sheet.specs.declared.CapFacts.{CapFacts}
 use Rattle.sheet.specs.declared.WarnFacts.{WarnFacts}
 
@@ -44,8 +44,8 @@ isLastingTime Unstated = true
 isLastingTime (Seconds s) = isLasting s
 
 unfoldable pub isParts : Parts → Bool
-isParts Nothing = true
-isParts (One p) = leb 1 (p .number) && leb (p .number) (p .total) && leb (p .total) 16 && isLastingTime (p .lasting)
+isParts NoPart = true
+isParts (OnePart p) = leb 1 (p .number) && leb (p .number) (p .total) && leb (p .total) 16 && isLastingTime (p .lasting)
 
 -- WARN's fields by their width in the packet
 unfoldable pub fitsPacket : WarnFacts → Bool

@@ -1,57 +1,15 @@
 // Fact sheets: what a sentence says, as values. The definitions of the sentence and of reading it are in specs/, the laws in proofs/;
 // the functions that write and read sentences are in the crates readback and reader.
+use codes::Certainty;
+use codes::MessageType;
+use codes::Scope;
+use codes::Severity;
+use codes::Status;
+use codes::Urgency;
 ghost use mathlib.Core.Path.{_≡_};
 ghost use Rattle.sheet.specs.Reading.{spanIn};
 
-pub mod codes; // codes.rt: CAP codes by their place in the schema's lists
 pub mod ranges; // ranges.rt: the ranges of a sheet's facts
-
-// CAP codes. Document 01 says them in small letters.
-pub enum MessageType {
-    Alert,
-    Update,
-    Cancel,
-    Ack,
-    Error,
-}
-
-pub enum Status {
-    Actual,
-    Exercise,
-    System,
-    Test,
-    Draft,
-}
-
-pub enum Scope {
-    Public,
-    Restricted,
-    Private,
-}
-
-pub enum Urgency {
-    Immediate,
-    Expected,
-    Future,
-    Past,
-    Unknown,
-}
-
-pub enum Severity {
-    Extreme,
-    Severe,
-    Moderate,
-    Minor,
-    Unknown,
-}
-
-pub enum Certainty {
-    Observed,
-    Likely,
-    Possible,
-    Unlikely,
-    Unknown,
-}
 
 // How long a CAP part lasts: document 01's lasting time, in seconds, or its absence.
 pub enum Lasting {
@@ -69,10 +27,10 @@ pub struct Part {
     pub lasting: Lasting,
 }
 
-// The part that a sheet tells of; document 01's part 0 of 0 is `Nothing`.
+// The part that a sheet tells of; document 01's part 0 of 0 is `NoPart`.
 pub enum Parts {
-    Nothing,
-    One(Part),
+    NoPart,
+    OnePart(Part),
 }
 
 // The facts of a CAP sheet but its sender and name, which are bytes beside it.
@@ -120,7 +78,7 @@ pub enum Line {
 }
 
 // The answer to writing a sheet: where its sentence ends, or a refusal.
-pub enum Wrote {
+pub enum WriteSheet {
     End(usize),
     OutOfRange,
     NoRoom,

@@ -9,7 +9,7 @@ ghost use lib.ListN.{drop};
 ghost use Rattle.text.specs.Ascii.{ascii};
 ghost use Rattle.text.specs.Parts.{startsWith};
 ghost use Rattle.words.specs.Duration.{isLasting};
-ghost use Rattle.sheet.specs.declared.Parts.the-variants.{One};
+ghost use Rattle.sheet.specs.declared.Parts.the-variants.{OnePart};
 ghost use Rattle.sheet.specs.Sheet.{cap, warn, isNameByte, isName, isLastingTime, isParts, inRange};
 
 // The longest lasting time, in seconds: 365 days.
@@ -69,7 +69,7 @@ fn is_lasting_time(lasting: Lasting) -> bool
 }
 
 fn is_part(p: Part) -> bool
-    ensures { λ r. ⌜ r ≡ isParts (One p) ⌝ }
+    ensures { λ r. ⌜ r ≡ isParts (OnePart p) ⌝ }
 {
     let lasting = p.lasting;
     (1 <= p.number) & (p.number <= p.total) & (p.total <= 16) & is_lasting_time(lasting)
@@ -79,8 +79,8 @@ fn is_parts(parts: Parts) -> bool
     ensures { λ r. ⌜ r ≡ isParts parts ⌝ }
 {
     match parts {
-        Parts::Nothing => true,
-        Parts::One(p) => is_part(p),
+        Parts::NoPart => true,
+        Parts::OnePart(p) => is_part(p),
     }
 }
 

@@ -41,10 +41,6 @@ module _ (t p : List ℕ) (i : ℕ) where
   unfolding startsWith
   starts-differ h g n = rw (drop-cons p i 0 h, drop-cons t i 0 g, ne-eqb (getD t i 0) (getD p i 0) n)
 
-  pub starts-short : i < length p → length t ≤ i → startsWith (drop i p) (drop i t) ≡ false
-  unfolding startsWith
-  starts-short h g = rw (drop-cons p i 0 h, drop-of-length-le t g)
-
   pub starts-end : length p ≤ i → startsWith (drop i p) (drop i t) ≡ true
   unfolding startsWith
   starts-end h = rw (drop-of-length-le p h)
@@ -61,7 +57,14 @@ starts-equal [] (y ∷ b) h = absurd (omega arith)
 starts-equal (x ∷ a) [] h = absurd (omega arith)
 starts-equal (x ∷ a) (y ∷ b) h = ap (λ (r : Bool). eqb x y && r) (starts-equal a b (suc-inj h))
 
--- ---- texts one behind the other
+-- ---- texts one after the other
+
+-- a longer text leads none
+pub starts-short : (p t : List ℕ) → length t < length p → startsWith p t ≡ false
+unfolding startsWith
+starts-short [] t h = absurd (omega arith)
+starts-short (a ∷ p) [] h = refl
+starts-short (a ∷ p) (b ∷ t) h = by-test (eqb b a) (λ e. rw e (starts-short p t (omega arith))) (λ e. rw e)
 
 -- a text leads whatever it stands in front of
 pub starts-own : (p r : List ℕ) → startsWith p (p ++ r) ≡ true
@@ -69,7 +72,7 @@ unfolding startsWith
 starts-own [] r = refl
 starts-own (b ∷ p) r = rw (eq-eqb b b refl) (starts-own p r)
 
--- a text leads another if its front does and its rest leads what is behind that
+-- a text leads another if its front does and its rest leads what is after that
 pub starts-append : (p q l : List ℕ) → startsWith p l && startsWith q (drop (length p) l) ≡ startsWith (p ++ q) l
 unfolding startsWith
 starts-append [] q l = refl

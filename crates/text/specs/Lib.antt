@@ -2,5 +2,5 @@ pub mod Ascii
 pub mod Bytes
 pub mod Tokens
 pub mod Logic
-pub mod Buffer
 pub mod Parts
+pub mod Search

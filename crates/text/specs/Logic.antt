@@ -67,6 +67,10 @@ T-true false t = absurd t
 pub true-T : (b : Bool) → b ≡ true → T b
 true-T b e = subst T (sym e) tt
 
+-- two constructors are never equal: `clash (cc)` proves anything from equations that would make them so
+pub clash : {P : Type 0} → _≡_ {A = ℕ} 0 1 → P
+clash z = absurd (omega arith)
+
 -- ---- a rule of a table, tested once over the whole table
 
 -- the test f passes at each number below n

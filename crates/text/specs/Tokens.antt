@@ -2,7 +2,7 @@
 use mathlib.Core.Bool.{Bool, true, false, cond, not}
 use mathlib.Core.List.{List, [], _∷_}
 use Prim.Native.Nat.{ℕ, zero, suc}
-use Rattle.text.specs.Bytes.{isSpace}
+use Rattle.text.specs.Bytes.{leading, isSpace}
 
 -- the text goes on with a token
 unfoldable pub onToken : List ℕ → Bool
@@ -19,6 +19,5 @@ tokens [] = []
 tokens (b ∷ l) = cond (isSpace b) (tokens l) (cond (onToken l) (longer b (tokens l)) ((b ∷ []) ∷ tokens l))
 
 -- how many bytes that are not white space lead a text
-unfoldable pub tokenLength : List ℕ → ℕ
-tokenLength [] = 0
-tokenLength (b ∷ l) = cond (isSpace b) 0 (suc (tokenLength l))
+abbrev pub tokenLength : List ℕ → ℕ
+tokenLength l = leading (λ b. not (isSpace b)) l

@@ -50,7 +50,7 @@ pub fn token_end(s: &[u8], at: usize) -> usize
     i
 }
 
-// What stands behind the first k bytes of a text.
+// What stands after the first k bytes of a text.
 pub fn skip(t: &[u8], k: usize) -> &[u8]
     ensures { λ r. ⌜ now r ≡ drop k (now (t .entry)) ⌝ }
 {
@@ -70,7 +70,7 @@ pub fn first(t: &[u8], k: usize) -> &[u8]
     &t[..k]
 }
 
-// The bytes of a text from one place to another; none where the second is not behind the first.
+// The bytes of a text from one place to another; none where the second is not after the first.
 pub fn part(t: &[u8], from: usize, until: usize) -> &[u8]
     ensures { λ r. ⌜ now r ≡ part (now (t .entry)) from until ⌝ }
 {
@@ -84,11 +84,11 @@ pub fn part(t: &[u8], from: usize, until: usize) -> &[u8]
 pub fn starts_with(t: &[u8], p: &[u8]) -> bool
     ensures { λ r. ⌜ r ≡ startsWith (now (p .entry)) (now (t .entry)) ⌝ }
 {
+    if t.len() < p.len() {
+        return false;
+    }
     let mut i = 0;
     while i < p.len() {
-        if t.len() <= i {
-            return false;
-        }
         if t[i] != p[i] {
             return false;
         }

@@ -1,40 +1,24 @@
 -- The answer for a text, by the tests on the way to it.
 use mathlib.Core.Path.{_≡_}
-use mathlib.Core.Bool.{true, false, cond}
+use mathlib.Core.Bool.{cond}
 use mathlib.Core.List.{List}
 use Prim.Native.Nat.{ℕ, _+_, _-_, _≤_, _<_}
 use native.Mathlib.Omega.{arith}
 use native.Mathlib.Nat.{add-sub-cancel-left}
-use lib.IntN.{ℤ}
 use lib.ListN.{length, take, drop, drop-of-length-le, length-drop}
 use lib.Seq.{drop-drop, take-all}
 use Rattle.text.specs.Bytes.{spaces, allSpace}
 use Rattle.text.specs.Logic.{by-test}
 use Rattle.text.proofs.Laws.{spaces-le, all-spaces, not-all-spaces}
-use Rattle.time.specs.declared.Stamp.{Stamp}
 use Rattle.time.specs.declared.Time.{Time}
-use Rattle.time.specs.declared.Time.the-variants.{Instant, Fault}
-use Rattle.time.specs.Time.{form, hasForm, stampOf, isStamp, instantOf, stampTime, timeOf}
+use Rattle.time.specs.declared.Time.the-variants.{Fault}
+use Rattle.time.specs.Time.{form, hasForm, stampTime, timeOf}
 use Rattle.time.proofs.Written.{form-length}
-
--- ---- the form's bytes
-
-module _ (l : List ℕ) where
-  pub stamp-formless : hasForm form l ≡ false → Fault ≡ stampTime l
-  unfolding stampTime
-  stamp-formless e = rw e
-
-  pub stamp-no : (t : Stamp) → hasForm form l ≡ true → t ≡ stampOf l → isStamp t ≡ false → Fault ≡ stampTime l
-  unfolding stampTime
-  stamp-no t f p e = let g : isStamp (stampOf l) ≡ false = rw p at e in rw (f, g)
-
-  pub stamp-yes : (t : Stamp) (z : ℤ) → hasForm form l ≡ true → t ≡ stampOf l → isStamp t ≡ true → z ≡ instantOf t → Instant z ≡ stampTime l
-  unfolding stampTime
-  stamp-yes t z f p e q = let g : isStamp (stampOf l) ≡ true = rw p at e in rw (f, g, q, p)
 
 -- fewer bytes than the form has
 stamp-short : (l : List ℕ) → length l < 25 → Fault ≡ stampTime l
-stamp-short l h = by-test (hasForm form l) (λ e. absurd (omega (arith, form-length form l e))) (stamp-formless l)
+unfolding stampTime
+stamp-short l h = by-test (hasForm form l) (λ e. absurd (omega (arith, form-length form l e))) (λ e. rw e)
 
 -- ---- the white space around them, from the place i where the time starts
 
@@ -47,7 +31,6 @@ module _ (l : List ℕ) (i : ℕ) (e : i ≡ 0 + spaces l) where
   time-at = let p : i ≡ spaces l = omega arith in rw (p, drop-drop 25 (spaces l) l)
 
   pub time-short : length l - i < 25 → Fault ≡ timeOf l
-  unfolding allSpace
   time-short h = rw (time-at, drop-of-length-le l {i = i + 25} (omega arith), take-all 25 (drop i l) (omega (arith, length-drop i l))) (stamp-short (drop i l) (omega (arith, length-drop i l)))
 
   module _ (j : ℕ) (h : i + 25 ≤ length l) (f : j ≡ i + 25 + spaces (drop (i + 25) l)) where

@@ -61,19 +61,6 @@ years-le k = omega (arith, years-sum k)
 
 -- ---- months
 
-module _ (y m : ℕ) where
-  pub month-leap : m ≡ 2 → isLeap y ≡ true → 29 ≡ monthDays y m
-  month-leap e f = rw (e, f)
-
-  pub month-common : m ≡ 2 → isLeap y ≡ false → 28 ≡ monthDays y m
-  month-common e f = rw (e, f)
-
-  pub month-short : (m ≡ 2 → ⊥) → (eqb m 4 || eqb m 6 || eqb m 9 || eqb m 11) ≡ true → 30 ≡ monthDays y m
-  month-short n f = rw (ne-eqb m 2 n, f)
-
-  pub month-long : (m ≡ 2 → ⊥) → (eqb m 4 || eqb m 6 || eqb m 9 || eqb m 11) ≡ false → 31 ≡ monthDays y m
-  month-long n f = rw (ne-eqb m 2 n, f)
-
 cond-le : {k a b : ℕ} (t : Bool) → a ≤ k → b ≤ k → cond t a b ≤ k
 cond-le true h g = h
 cond-le false h g = g

@@ -6,15 +6,13 @@ use Prim.Native.Nat.{ℕ, _≤_}
 use native.Mathlib.Omega.{arith}
 use lib.IntN.{ℤ, natAbs, _-ℤ_}
 use lib.ListN.{length, take, drop}
-use mir.Syntax.{w64}
-use mir.Val.{SFits, toZ, ofZ}
-use Rattle.text.specs.Logic.{cond-cases, and-right}
+use Rattle.text.specs.Logic.{cond-cases, and-right, clash}
 use Rattle.text.specs.Bytes.{dropSpace, allSpace}
 use Rattle.time.specs.declared.Time.{Time}
 use Rattle.time.specs.declared.Time.the-variants.{Instant, Fault}
 use Rattle.time.specs.Time.{form, hasForm, stampOf, isStamp, instantOf, stampTime, timeOf}
 use Rattle.integers.specs.Magnitude.{abs-sub}
-use Rattle.integers.specs.Reads.{Reads, reads-abs, sub-fits, sub-reads}
+use Rattle.time.proofs.Bounds.{stamped}
 use Rattle.time.proofs.Seconds.{instant-abs}
 
 -- an answer that is an instant is a near one
@@ -22,7 +20,7 @@ abbrev Near : Time → Type 0
 Near r = (z : ℤ) → r ≡ Instant z → natAbs z ≤ 300_000_000_000
 
 fault-near : Near Fault
-fault-near z e = absurd (let c : _≡_ {A = ℕ} 0 1 = cc in omega arith)
+fault-near z e = clash (cc)
 
 instant-near : (w : ℤ) → natAbs w ≤ 300_000_000_000 → Near (Instant w)
 instant-near w h z e = let c : w ≡ z = cc in rw c at h
@@ -31,7 +29,7 @@ stamp-near : (l : List ℕ) → Near (stampTime l)
 unfolding stampTime
 stamp-near l =
     cond-cases Near (hasForm form l && isStamp (stampOf l)) (Instant (instantOf (stampOf l))) Fault
-    (λ t. instant-near (instantOf (stampOf l)) (instant-abs (stampOf l) (and-right (hasForm form l) (isStamp (stampOf l)) t)))
+    (λ t. instant-near (instantOf (stampOf l)) (instant-abs (stampOf l) (stamped (stampOf l) (and-right (hasForm form l) (isStamp (stampOf l)) t))))
     (λ t. fault-near)
 
 time-near : (l : List ℕ) → Near (timeOf l)
@@ -45,16 +43,6 @@ time-near l =
 pub range : (l : List ℕ) (z : ℤ) → timeOf l ≡ Instant z → natAbs z ≤ 300_000_000_000
 range l z e = time-near l z e
 
-near-reads : (l : List ℕ) (z : ℤ) → timeOf l ≡ Instant z → Reads (ofZ w64 z) z
-near-reads l z e = reads-abs z (omega (arith, range l z e))
-
--- the difference of two instants, and that of the code
-module _ (l k : List ℕ) (z w : ℤ) (e : timeOf l ≡ Instant z) (f : timeOf k ≡ Instant w) where
-  pub apart : natAbs (z -ℤ w) ≤ 600_000_000_000
-  apart = omega (arith, range l z e, range k w f, abs-sub z w)
-
-  pub apart-fits : SFits w64 (toZ w64 (ofZ w64 z) -ℤ toZ w64 (ofZ w64 w))
-  apart-fits = sub-fits (near-reads l z e) (near-reads k w f) (omega (arith, apart))
-
-  pub apart-reads : Reads (ofZ w64 (toZ w64 (ofZ w64 z) -ℤ toZ w64 (ofZ w64 w))) (z -ℤ w)
-  apart-reads = sub-reads (near-reads l z e) (near-reads k w f) (omega (arith, apart))
+-- the difference of two instants
+pub apart : (l k : List ℕ) (z w : ℤ) → timeOf l ≡ Instant z → timeOf k ≡ Instant w → natAbs (z -ℤ w) ≤ 600_000_000_000
+apart l k z w e f = omega (arith, range l z e, range k w f, abs-sub z w)

@@ -1,5 +1,5 @@
 -- The seconds of a stamp: how many they are, and the signed arithmetic that makes its instant of them.
-use mathlib.Core.Path.{_≡_, refl, ap, _∙_}
+use mathlib.Core.Path.{_≡_, ap, _∙_}
 use mathlib.Core.Bool.{true, false}
 use Prim.Native.Nat.{ℕ, _+_, _*_, _≤_, _<_}
 use native.Mathlib.Omega.{arith}
@@ -9,13 +9,13 @@ use mir.Syntax.{w64}
 use mir.Val.{SFits, toZ, ofZ}
 use Rattle.text.specs.Logic.{cond-cases}
 use Rattle.time.specs.declared.Stamp.{Stamp}
-use Rattle.time.specs.Calendar.{daysBefore}
-use Rattle.time.specs.Time.{isStamp, localSeconds, epoch, offset, instantOf}
+use Rattle.time.specs.Time.{localSeconds, epoch, offset, instantOf}
+use Rattle.time.specs.Limits.{Stamped}
 use Rattle.integers.specs.Magnitude.{abs-neg, abs-near, abs-sub}
 use Rattle.integers.specs.Bits.{fits-abs}
 use Rattle.integers.specs.Reads.{Reads, reads-pos, reads-back, neg-fits, neg-reads, sub-fits, sub-reads}
 use Rattle.time.proofs.Days.{years-closed}
-use Rattle.time.proofs.Bounds.{days-le, stamped}
+use Rattle.time.proofs.Bounds.{days-le}
 
 pub epoch-is : 62_135_596_800 ≡ epoch
 unfolding epoch
@@ -24,26 +24,17 @@ epoch-is = ap (λ (n : ℕ). 86_400 * n) (years-closed 1969)
 epoch-reads : Reads 62_135_596_800 (pos epoch)
 epoch-reads = record { is = ap pos epoch-is }
 
-module _ (t : Stamp) (e : isStamp t ≡ true) where
-  -- ---- what the calendar and the clock say
-  module _ (n : ℕ) (p : n ≡ daysBefore (t .year) (t .month) (t .day)) where
-    pub seconds-le : 86_400 * n + 3_600 * t .hour + 60 * t .minute + t .second ≤ 317_000_000_000
-    seconds-le = let b = stamped t e in omega (arith, days-le (t .year) (t .month) (t .day) (b .date))
-
-    pub seconds-is : 86_400 * n + 3_600 * t .hour + 60 * t .minute + t .second ≡ localSeconds t
-    unfolding localSeconds
-    seconds-is = rw p
-
+module _ (t : Stamp) (b : Stamped t) where
   local-le : localSeconds t ≤ 317_000_000_000
   unfolding localSeconds
-  local-le = seconds-le (daysBefore (t .year) (t .month) (t .day)) refl
+  local-le = omega (arith, days-le (t .year) (t .month) (t .day) (b .date))
 
   -- ---- the offset
   abbrev ahead : ℕ
   ahead = 3_600 * t .«offset_hour» + 60 * t .«offset_minute»
 
   pub ahead-le : ahead ≤ 50_400
-  ahead-le = let b = stamped t e in omega arith
+  ahead-le = omega arith
 
   offset-abs : natAbs (offset t) ≤ 50_400
   unfolding offset

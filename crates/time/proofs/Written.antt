@@ -1,6 +1,6 @@
 -- Laws of the form and of the numbers that a text of the form writes.
 use mathlib.Core.Path.{_≡_, refl, ap}
-use mathlib.Core.Bool.{Bool, true, false, not, _&&_, _||_, false≢true}
+use mathlib.Core.Bool.{true, false, false≢true}
 use mathlib.Core.List.{List, [], _∷_}
 use Prim.Native.Nat.{ℕ, suc, _+_, _*_, _≤_, _<_}
 use Prim.Native.Char.{code}
@@ -9,18 +9,13 @@ use native.Mathlib.Omega.{arith}
 use lib.Dec.{eqb}
 use lib.ListN.{length, getD, drop, drop-of-length-le}
 use lib.Seq.{drop-cons}
-use Rattle.text.specs.Bytes.{isDigit, numberFrom}
+use Rattle.text.specs.Bytes.{numberFrom}
 use Rattle.text.specs.Logic.{and-right}
 use Rattle.time.specs.declared.Stamp.{Stamp}
 use Rattle.time.specs.Digits.{digitValue}
-use Rattle.time.specs.Time.{isSign, isFormByte, hasForm, digitsAt, stampOf}
+use Rattle.time.specs.Time.{isFormByte, hasForm, digitsAt, stampOf}
 
 -- ---- the form
-
-pub form-byte : (f b : ℕ) (d s : Bool) → d ≡ isDigit b → s ≡ isSign b → (eqb f (code "d") && d || eqb f (code "s") && s || not (eqb f (code "d")) && not (eqb f (code "s")) && eqb b f) ≡ isFormByte f b
-form-byte f b d s p q = rw (p, q)
-
--- at a place
 
 module _ (f l : List ℕ) (i : ℕ) where
   pub form-on : i < length f → i < length l → isFormByte (getD f i 0) (getD l i 0) ≡ true → hasForm (drop i f) (drop i l) ≡ hasForm (drop (i + 1) f) (drop (i + 1) l)

@@ -2,3 +2,4 @@ pub mod Calendar
 pub mod Digits
 pub mod Time
 pub mod Samples
+pub mod Limits

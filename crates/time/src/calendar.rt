@@ -1,9 +1,8 @@
 // The civil calendar: leap years, and the days before a date, counted from 0001-01-01.
 ghost use mathlib.Core.Path.{_≡_};
-ghost use mathlib.Core.Bool.{true};
 ghost use Prim.Native.Nat.{_≤_, _<_};
 ghost use Rattle.time.specs.Calendar.{isLeap, monthDays, daysBeforeYear, daysBeforeMonth, daysBefore};
-ghost use Rattle.time.specs.Time.{isDate};
+ghost use Rattle.time.specs.Limits.{Dated};
 
 // The days of a common year before each month, by the month's number; there is no month 0.
 const BEFORE: [u64; 13] = [0, 0, 31, 59, 90, 120, 151, 181, 212, 243, 273, 304, 334];
@@ -48,10 +47,10 @@ fn days_before_month(y: u64, m: u64) -> u64
     BEFORE[m as usize] + ((2 < m) & is_leap(y)) as u64
 }
 
-// The days from 0001-01-01 to a date that exists.
+// The days from 0001-01-01 to a date within the limits.
 pub fn days_before(y: u64, m: u64, d: u64) -> u64
-    requires { ⌜ isDate y m d ≡ true ⌝ }
-    ensures { λ r. ⌜ r ≡ daysBefore y m d ⌝ }
+    requires { ⌜ Dated y m d ⌝ }
+    ensures { λ r. ⌜ (r ≡ daysBefore y m d) × (r ≤ 3_660_000) ⌝ }
 {
     days_before_year(y) + days_before_month(y, m) + (d - 1)
 }

@@ -48,7 +48,7 @@ pub fn has_time_form(text: &[u8]) -> bool
 
 // A digit's value; 0 for a byte below the digits.
 fn digit(b: u8) -> u64
-    ensures { λ r. ⌜ r ≡ digitValue b ⌝ }
+    ensures { λ r. ⌜ (r ≡ digitValue b) × (r ≤ 207) ⌝ }
 {
     if b < b'0' {
         return 0;

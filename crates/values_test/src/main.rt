@@ -1,6 +1,7 @@
 // Runs the definitions' values: all cosines, then each case of standard input, and writes the answers.
 // A case is a letter for its kind, a text, '#' and a line feed. tests/values.py writes the cases
 // and, from other sources, the answers.
+use buffer::WriteText;
 use circle::Circle;
 use coordinates::Degrees;
 use coordinates::Inclusion;
@@ -9,7 +10,6 @@ use coordinates::Place;
 use coordinates::Radius;
 use libc::STDIN_FILENO;
 use libc::STDOUT_FILENO;
-use readback::Written;
 use time::Time;
 ghost use Prim.Native.Nat.{_≤_};
 ghost use lib.IntN.{natAbs};
@@ -65,33 +65,33 @@ fn print_radius(text: &[u8]) {
     }
 }
 
-// The words of a number, which stand behind a space: its value, and its words written anew.
+// The words of a number, which stand after a space: its value, and its words written anew.
 fn print_number(text: &[u8]) {
-    let heard = readback::read_number(text, 0);
+    let heard = spoken::read_number(text, 0);
     io::print_decimal(STDOUT_FILENO, heard.value as u64);
     print(b" ");
     let mut words = [0u8; 256];
-    let end = readback::write_number(&mut words, 0, heard.value);
+    let end = spoken::write_number(&mut words, 0, heard.value);
     print_written(&words, end);
 }
 
 fn print_duration(text: &[u8]) {
-    let heard = readback::read_duration(text, 0);
+    let heard = spoken::read_duration(text, 0);
     io::print_decimal(STDOUT_FILENO, heard.value as u64);
     print(b" ");
     let mut words = [0u8; 512];
-    let end = readback::write_duration(&mut words, 0, heard.value);
+    let end = spoken::write_duration(&mut words, 0, heard.value);
     print_written(&words, end);
 }
 
-fn print_written(words: &[u8], end: Written) {
+fn print_written(words: &[u8], end: WriteText) {
     match end {
-        Written::End(n) => {
+        WriteText::End(n) => {
             if n <= words.len() {
                 print(&words[..n]);
             }
         }
-        Written::NoRoom => print(b"no room"),
+        WriteText::NoRoom => print(b"no room"),
     }
 }
 
@@ -108,11 +108,11 @@ fn print_shape(kind: u8, case: &[u8]) {
     let comma = find(case, 0, b';');
     let p = coordinates::read_pair(&case[..comma]);
     let place = place_of(p);
-    print_inclusion_in(kind, behind(case, comma), place);
+    print_inclusion_in(kind, after(case, comma), place);
 }
 
-// What stands behind a place of a text.
-fn behind(s: &[u8], at: usize) -> &[u8] {
+// What stands after a place of a text.
+fn after(s: &[u8], at: usize) -> &[u8] {
     if at < s.len() {
         return &s[at + 1..];
     }
@@ -165,7 +165,7 @@ fn find(s: &[u8], from: usize, byte: u8) -> usize
     i
 }
 
-// The place behind the '#' at a place and the line feed behind it.
+// The place after the '#' at a place and the line feed after it.
 fn next_start(input: &[u8], end: usize) -> usize
     requires { ⌜ end ≤ length (now input) ⌝ }
     ensures { λ r. ⌜ end ≤ r ⌝ }

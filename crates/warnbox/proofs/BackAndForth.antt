@@ -8,19 +8,19 @@ use lib.Dec.{eqb, ltb, leb}
 use borrow.Author.Tests.{leb-true, lt-ltb, ne-eqb, not-true}
 use Rattle.text.specs.Logic.{and-right, and-comm}
 use Rattle.words.specs.Duration.{isLasting}
-use Rattle.sheet.specs.declared.MessageType.{MessageType}
-use Rattle.sheet.specs.declared.Status.{Status}
-use Rattle.sheet.specs.declared.Scope.{Scope}
+use Rattle.codes.specs.declared.MessageType.{MessageType}
+use Rattle.codes.specs.declared.Status.{Status}
+use Rattle.codes.specs.declared.Scope.{Scope}
 use Rattle.sheet.specs.declared.Lasting.{Lasting}
 use Rattle.sheet.specs.declared.Lasting.the-variants.{Unstated, Seconds}
 use Rattle.sheet.specs.declared.Part.{Part}
 use Rattle.sheet.specs.declared.Parts.{Parts}
-use Rattle.sheet.specs.declared.Parts.the-variants.{Nothing, One}
+use Rattle.sheet.specs.declared.Parts.the-variants.{NoPart, OnePart}
 use Rattle.sheet.specs.declared.CapFacts.{CapFacts}
 use Rattle.sheet.specs.declared.WarnFacts.{WarnFacts}
 use Rattle.sheet.specs.declared.Span.{Span}
-use Rattle.sheet.specs.CodePlaces.{messageNumber, statusNumber, scopeNumber}
-use Rattle.sheet.specs.CodePlaces.{message-at, status-at, scope-at, urgency-at, severity-at, certainty-at}
+use Rattle.codes.specs.Values.{messageNumber, statusNumber, scopeNumber}
+use Rattle.codes.proofs.Numbers.{message-numbers, status-numbers, scope-numbers, urgency-numbers, severity-numbers, certainty-numbers}
 use Rattle.sheet.specs.Sheet.{warn, isLastingTime, isParts, fitsPacket, inRange}
 use Rattle.sheet.proofs.Limits.{lasting-range, warn-range}
 use Rattle.warnbox.specs.Numbers.{isFlag, arePart, areCap, lastingFrom, partFrom, capFrom, senderFrom, nameFrom, areWarn, warnFrom}
@@ -33,12 +33,12 @@ use Rattle.warnbox.proofs.CodeNumbers.{message-is, status-is, scope-is,
 
 -- a part's facts fit their numbers; part 0 of 0 is no part
 unfoldable pub fitsNumbers : Parts → Bool
-fitsNumbers Nothing = true
-fitsNumbers (One p) =
+fitsNumbers NoPart = true
+fitsNumbers (OnePart p) =
     not (eqb (p .number) 0 && eqb (p .total) 0) && ltb (p .number) 0x100 && ltb (p .total) 0x100 && ltb (secondsOf (p .lasting)) 0x1_0000_0000
 
 part-tests :
-    (p : Part) → fitsNumbers (One p) ≡ true
+    (p : Part) → fitsNumbers (OnePart p) ≡ true
     → (eqb (p .number) 0 && eqb (p .total) 0 ≡ false)
     × (ltb (p .number) 0x100 ≡ true)
     × (ltb (p .total) 0x100 ≡ true)
@@ -64,8 +64,8 @@ lasting-back (Seconds s) = refl
 module _ (x : MessageType) (y : Status) (z : Scope) (sender name : Span) where
   parts-are : (p : Parts) → fitsNumbers p ≡ true → areCap (withParts (messageNumber x) (statusNumber y) (scopeNumber z) sender name p) ≡ true
   unfolding areCap arePart numbersOfNone numbersOfPart
-  parts-are Nothing e = rw (message-is x, status-is y, scope-is z)
-  parts-are (One p) e =
+  parts-are NoPart e = rw (message-is x, status-is y, scope-is z)
+  parts-are (OnePart p) e =
       let t = part-tests p e in
       rw (
         message-is x,
@@ -85,16 +85,16 @@ module _ (x : MessageType) (y : Status) (z : Scope) (sender name : Span) where
       (p : Parts) → fitsNumbers p ≡ true
       → capFrom (withParts (messageNumber x) (statusNumber y) (scopeNumber z) sender name p) ≡ record { message = x; status = y; scope = z; parts = p }
   unfolding capFrom partFrom numbersOfNone numbersOfPart
-  parts-back Nothing e = rw (message-at x, status-at y, scope-at z)
-  parts-back (One p) e =
+  parts-back NoPart e = rw (message-numbers x .back, status-numbers y .back, scope-numbers z .back)
+  parts-back (OnePart p) e =
       rw (
-        message-at x,
-        status-at y,
-        scope-at z,
+        message-numbers x .back,
+        status-numbers y .back,
+        scope-numbers z .back,
         part-tests p e .0,
-        urgency-at (p .urgency),
-        severity-at (p .severity),
-        certainty-at (p .certainty),
+        urgency-numbers (p .urgency) .back,
+        severity-numbers (p .severity) .back,
+        certainty-numbers (p .certainty) .back,
         lasting-back (p .lasting),
       )
 
@@ -103,8 +103,8 @@ module _ (x : MessageType) (y : Status) (z : Scope) (sender name : Span) where
       → (senderFrom (withParts (messageNumber x) (statusNumber y) (scopeNumber z) sender name p) ≡ sender)
       × (nameFrom (withParts (messageNumber x) (statusNumber y) (scopeNumber z) sender name p) ≡ name)
   unfolding numbersOfNone numbersOfPart
-  spans-back Nothing = (refl, refl)
-  spans-back (One p) = (refl, refl)
+  spans-back NoPart = (refl, refl)
+  spans-back (OnePart p) = (refl, refl)
 
 pub cap-back :
     (f : CapFacts) (sender name : Span) → fitsNumbers (f .parts) ≡ true
@@ -127,8 +127,8 @@ seconds-fit (Seconds s) e = let r = lasting-range s e in omega arith
 -- the part of each sheet in range fits
 pub range-fits : (p : Parts) → isParts p ≡ true → fitsNumbers p ≡ true
 unfolding isParts fitsNumbers
-range-fits Nothing e = refl
-range-fits (One p) e =
+range-fits NoPart e = refl
+range-fits (OnePart p) e =
     let passed = joined-at true (leb 1 (p .number) ∷ leb (p .number) (p .total) ∷ leb (p .total) 16 ∷ isLastingTime (p .lasting) ∷ []) e in
     let some = leb-true 1 (p .number) (passed 0) in
     let within = leb-true (p .number) (p .total) (passed 1) in

@@ -5,3 +5,4 @@ pub mod BackAndForth
 pub mod Pairs
 pub mod Places
 pub mod Writing
+mod TableTypes

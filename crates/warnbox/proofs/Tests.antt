@@ -9,7 +9,7 @@ use borrow.Author.Tests.{ltb-true}
 use Rattle.text.specs.Logic.{and-left, and-right}
 use Rattle.warnbox.specs.Numbers.{at, isCode, isFlag, hasNoPart, arePart, areCap, areWarn}
 
--- ---- many tests, one behind the other
+-- ---- many tests, one after the other
 
 -- a test and then those of a list, joined as `a && b && c` is
 abbrev pub joined : Bool → List Bool → Bool

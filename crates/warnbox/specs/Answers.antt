@@ -1,8 +1,8 @@
 -- What the functions for C give back: a refusal's number, 0 for none; and with it a value, which is a refusal's place or else what the function tells.
 -- Numbers and places are those that each answer's own definition gives.
 use Prim.Native.Nat.{ℕ}
-use Rattle.sheet.specs.declared.Wrote.{Wrote}
-use Rattle.sheet.specs.declared.Wrote.the-variants as wrote
+use Rattle.sheet.specs.declared.WriteSheet.{WriteSheet}
+use Rattle.sheet.specs.declared.WriteSheet.the-variants as write
 use Rattle.sheet.specs.declared.ReadBack.{ReadBack}
 use Rattle.sheet.specs.declared.ReadBack.the-variants as read
 use Rattle.sheet.specs.Answers.{Outcome, done, writeOutcome, readOutcome}
@@ -14,43 +14,44 @@ use Rattle.document.specs.declared.Check.{Check}
 use Rattle.document.specs.declared.Check.the-variants as check
 use Rattle.parts.specs.declared.CapPlace.{CapPlace}
 use Rattle.parts.specs.declared.CapPlace.the-variants as cap
-use Rattle.parts.specs.Places.{placePlace}
+use Rattle.parts.specs.Places.{refusalOffset}
 use Rattle.parts.specs.Places as parts
 use Rattle.warnbox.specs.declared.Answer.{Answer}
 
-abbrev pub told : ℕ → Answer
-told v = record { number = 0; value = v }
+-- the value v, and no refusal
+abbrev pub success : ℕ → Answer
+success v = record { number = 0; value = v }
 
-abbrev pub refused : (number place : ℕ) → Answer
+abbrev pub refused : (number offset : ℕ) → Answer
 refused n p = record { number = n; value = p }
 
--- the value v, unless there is a refusal
-abbrev pub unless : Outcome → ℕ → Answer
-unless done v = told v
-unless (sheet.refused r) v = refused (r .number) (r .place)
+-- the value v where all went well, or else the refusal
+abbrev pub answerOf : Outcome → ℕ → Answer
+answerOf done v = success v
+answerOf (sheet.refused r) v = refused (r .number) (r .offset)
 
 -- the number of parts
 abbrev pub checkAnswer : Check → Answer
-checkAnswer (check.Accepted parts) = told parts
+checkAnswer (check.Accepted parts) = success parts
 checkAnswer (check.Refused n p) = refused n p
 
 -- where the sentence ends
-abbrev pub endOf : Wrote → ℕ
-endOf (wrote.End e) = e
-endOf wrote.OutOfRange = 0
-endOf wrote.NoRoom = 0
+abbrev pub endOf : WriteSheet → ℕ
+endOf (write.End e) = e
+endOf write.OutOfRange = 0
+endOf write.NoRoom = 0
 
-abbrev pub writeAnswer : Wrote → Answer
-writeAnswer w = unless (writeOutcome w) (endOf w)
+abbrev pub writeAnswer : WriteSheet → Answer
+writeAnswer w = answerOf (writeOutcome w) (endOf w)
 
 -- 0 outside, 1 inside, 2 no shape
 abbrev pub capPlaceValue : CapPlace → ℕ
 capPlaceValue cap.Outside = 0
 capPlaceValue cap.Inside = 1
 capPlaceValue cap.NoShape = 2
-capPlaceValue cap.NotThere = placePlace cap.NotThere
-capPlaceValue cap.OutOfRange = placePlace cap.OutOfRange
-capPlaceValue (cap.Refused n p) = placePlace (cap.Refused n p)
+capPlaceValue cap.NotThere = refusalOffset cap.NotThere
+capPlaceValue cap.OutOfRange = refusalOffset cap.OutOfRange
+capPlaceValue (cap.Refused n p) = refusalOffset (cap.Refused n p)
 
 abbrev pub capPlaceAnswer : CapPlace → Answer
 capPlaceAnswer x = record { number = parts.placeNumber x; value = capPlaceValue x }
@@ -73,4 +74,4 @@ countOf (read.NotReadBack p) = 0
 countOf read.NotThere = 0
 
 abbrev pub readAnswer : ReadBack → Answer
-readAnswer x = unless (readOutcome x) (countOf x)
+readAnswer x = answerOf (readOutcome x) (countOf x)

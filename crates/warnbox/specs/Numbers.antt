@@ -12,14 +12,14 @@ use Rattle.sheet.specs.declared.Lasting.{Lasting}
 use Rattle.sheet.specs.declared.Lasting.the-variants.{Unstated, Seconds}
 use Rattle.sheet.specs.declared.Part.{Part}
 use Rattle.sheet.specs.declared.Parts.{Parts}
-use Rattle.sheet.specs.declared.Parts.the-variants.{Nothing, One}
+use Rattle.sheet.specs.declared.Parts.the-variants.{NoPart, OnePart}
 use Rattle.sheet.specs.declared.CapFacts.{CapFacts}
 use Rattle.sheet.specs.declared.WarnFacts.{WarnFacts}
 use Rattle.sheet.specs.declared.Span.{Span}
 use Rattle.sheet.specs.declared.Found.{Found}
 use Rattle.sheet.specs.declared.Found.the-variants as found
-use Rattle.sheet.specs.CodePlaces.{messageAt, statusAt, scopeAt, urgencyAt, severityAt, certaintyAt}
-use Rattle.sheet.specs.CodePlaces.{messageNumber, statusNumber, scopeNumber, urgencyNumber, severityNumber, certaintyNumber}
+use Rattle.codes.specs.Values.{messageAt, statusAt, scopeAt, urgencyAt, severityAt, certaintyAt}
+use Rattle.codes.specs.Values.{messageNumber, statusNumber, scopeNumber, urgencyNumber, severityNumber, certaintyNumber}
 
 -- the number at a place
 abbrev pub at : List ℕ → ℕ → ℕ
@@ -65,7 +65,7 @@ capFrom n = record {
   message = messageAt (at n 1);
   status = statusAt (at n 2);
   scope = scopeAt (at n 3);
-  parts = cond (hasNoPart n) Nothing (One (partFrom n));
+  parts = cond (hasNoPart n) NoPart (OnePart (partFrom n));
 }
 
 abbrev pub senderFrom : List ℕ → Span
@@ -124,8 +124,8 @@ numbersOfPart m t c sender name p =
     ∷ sender .start ∷ sender .len ∷ name .start ∷ name .len ∷ []
 
 abbrev pub withParts : (message status scope : ℕ) (sender name : Span) → Parts → List ℕ
-withParts m t c sender name Nothing = numbersOfNone m t c sender name
-withParts m t c sender name (One p) = numbersOfPart m t c sender name p
+withParts m t c sender name NoPart = numbersOfNone m t c sender name
+withParts m t c sender name (OnePart p) = numbersOfPart m t c sender name p
 
 abbrev pub capNumbers : CapFacts → Span → Span → List ℕ
 capNumbers f sender name = withParts (messageNumber (f .message)) (statusNumber (f .status)) (scopeNumber (f .scope)) sender name (f .parts)

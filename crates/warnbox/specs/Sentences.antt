@@ -9,13 +9,13 @@ use Rattle.sheet.specs.declared.ReadBack.{ReadBack}
 use Rattle.sheet.specs.declared.ReadBack.the-variants as read
 use Rattle.sheet.specs.Sheet.{cap, warn}
 use Rattle.sheet.specs.Reading.{spanIn}
-use Rattle.sheet.specs.Answers.{wrote, after}
+use Rattle.sheet.specs.Answers.{writeSheet, after}
 use Rattle.packet.specs.declared.PacketSheet.{PacketSheet}
 use Rattle.packet.specs.declared.PacketSheet.the-variants as packet
 use Rattle.packet.specs.Packet.{faultNumber}
 use Rattle.parts.specs.declared.CapSheet.{CapSheet}
 use Rattle.parts.specs.declared.CapSheet.the-variants as drawn
-use Rattle.parts.specs.Sheets.{sheetNumber, sheetPlace}
+use Rattle.parts.specs.Sheets.{sheetNumber, sheetOffset}
 use Rattle.warnbox.specs.declared.Answer.{Answer}
 use Rattle.warnbox.specs.Answers.{refused, writeAnswer}
 use Rattle.warnbox.specs.Numbers.{areCap, capFrom, senderFrom, nameFrom, areWarn, warnFrom, numbersOf}
@@ -23,10 +23,10 @@ use Rattle.warnbox.specs.Numbers.{areCap, capFrom, senderFrom, nameFrom,
 -- ---- the sentence of a part of the document l, into the buffer d from a place on; d is what it held before
 
 abbrev pub partSentence : List ℕ → ℕ → List ℕ → CapSheet → Answer
-partSentence d start l (drawn.Sheet f sender name) = writeAnswer (wrote d start (cap f (spanIn l sender) (spanIn l name)))
-partSentence d start l drawn.NotThere = refused (sheetNumber drawn.NotThere) (sheetPlace drawn.NotThere)
-partSentence d start l drawn.OutOfRange = refused (sheetNumber drawn.OutOfRange) (sheetPlace drawn.OutOfRange)
-partSentence d start l (drawn.Refused n p) = refused (sheetNumber (drawn.Refused n p)) (sheetPlace (drawn.Refused n p))
+partSentence d start l (drawn.Sheet f sender name) = writeAnswer (writeSheet d start (cap f (spanIn l sender) (spanIn l name)))
+partSentence d start l drawn.NotThere = refused (sheetNumber drawn.NotThere) (sheetOffset drawn.NotThere)
+partSentence d start l drawn.OutOfRange = refused (sheetNumber drawn.OutOfRange) (sheetOffset drawn.OutOfRange)
+partSentence d start l (drawn.Refused n p) = refused (sheetNumber (drawn.Refused n p)) (sheetOffset (drawn.Refused n p))
 
 abbrev pub partAfter : List ℕ → ℕ → List ℕ → CapSheet → List ℕ
 partAfter d start l (drawn.Sheet f sender name) = after d start (cap f (spanIn l sender) (spanIn l name))
@@ -37,7 +37,7 @@ partAfter d start l (drawn.Refused n p) = d
 -- ---- the sentence of a packet
 
 abbrev pub packetSentence : List ℕ → ℕ → PacketSheet → Answer
-packetSentence d start (packet.Sheet w) = writeAnswer (wrote d start (warn w))
+packetSentence d start (packet.Sheet w) = writeAnswer (writeSheet d start (warn w))
 packetSentence d start (packet.Refused fault) = refused (faultNumber fault) 0
 
 abbrev pub packetAfter : List ℕ → ℕ → PacketSheet → List ℕ
@@ -56,8 +56,8 @@ areCapIn t n = areCap n && liesIn t (senderFrom n) && liesIn t (nameFrom n)
 
 unfoldable pub numbersSentence : List ℕ → ℕ → List ℕ → List ℕ → Answer
 numbersSentence d start t n =
-    cond (areCapIn t n) (writeAnswer (wrote d start (cap (capFrom n) (spanIn t (senderFrom n)) (spanIn t (nameFrom n)))))
-    (cond (areWarn n) (writeAnswer (wrote d start (warn (warnFrom n)))) (refused 23 0))
+    cond (areCapIn t n) (writeAnswer (writeSheet d start (cap (capFrom n) (spanIn t (senderFrom n)) (spanIn t (nameFrom n)))))
+    (cond (areWarn n) (writeAnswer (writeSheet d start (warn (warnFrom n)))) (refused 23 0))
 
 unfoldable pub numbersAfter : List ℕ → ℕ → List ℕ → List ℕ → List ℕ
 numbersAfter d start t n =

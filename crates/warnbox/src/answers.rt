@@ -4,16 +4,16 @@ use document::Check;
 use packet::PacketPlace;
 use parts::CapPlace;
 use sheet::ReadBack;
-use sheet::Wrote;
+use sheet::WriteSheet;
 ghost use mathlib.Core.Path.{_≡_};
 ghost use Rattle.warnbox.specs.Answers.{refused, checkAnswer, writeAnswer, capPlaceAnswer, packetPlaceAnswer, readAnswer};
 
-pub fn refused(number: u8, place: usize) -> Answer
-    ensures { λ r. ⌜ r ≡ refused number place ⌝ }
+pub fn refused(number: u8, offset: usize) -> Answer
+    ensures { λ r. ⌜ r ≡ refused number offset ⌝ }
 {
     Answer {
         number: number,
-        value: place as u64,
+        value: offset as u64,
     }
 }
 
@@ -25,26 +25,26 @@ pub fn check_answer(check: Check) -> Answer
             number: 0,
             value: parts as u64,
         },
-        Check::Refused(number, place) => Answer {
+        Check::Refused(number, offset) => Answer {
             number: number,
-            value: place as u64,
+            value: offset as u64,
         },
     }
 }
 
-pub fn write_answer(wrote: Wrote) -> Answer
-    ensures { λ r. ⌜ r ≡ writeAnswer wrote ⌝ }
+pub fn write_answer(answer: WriteSheet) -> Answer
+    ensures { λ r. ⌜ r ≡ writeAnswer answer ⌝ }
 {
-    match wrote {
-        Wrote::End(end) => Answer {
+    match answer {
+        WriteSheet::End(end) => Answer {
             number: 0,
             value: end as u64,
         },
-        Wrote::OutOfRange => Answer {
+        WriteSheet::OutOfRange => Answer {
             number: 23,
             value: 0,
         },
-        Wrote::NoRoom => Answer {
+        WriteSheet::NoRoom => Answer {
             number: 13,
             value: 0,
         },
@@ -75,9 +75,9 @@ pub fn cap_place_answer(answer: CapPlace) -> Answer
             number: 6,
             value: 0,
         },
-        CapPlace::Refused(number, place) => Answer {
+        CapPlace::Refused(number, offset) => Answer {
             number: number,
-            value: place as u64,
+            value: offset as u64,
         },
     }
 }
@@ -114,9 +114,9 @@ pub fn read_answer(answer: ReadBack) -> Answer
             number: 0,
             value: n as u64,
         },
-        ReadBack::NotReadBack(place) => Answer {
+        ReadBack::NotReadBack(offset) => Answer {
             number: 23,
-            value: place as u64,
+            value: offset as u64,
         },
         ReadBack::NotThere => Answer {
             number: 21,

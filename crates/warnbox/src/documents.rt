@@ -38,7 +38,7 @@ fn write_drawn(buffer: &mut [u8], start: usize, document: &[u8], drawn: CapSheet
         )),
         CapSheet::NotThere => refused(21, 0),
         CapSheet::OutOfRange => refused(7, 0),
-        CapSheet::Refused(number, place) => refused(number, place),
+        CapSheet::Refused(number, offset) => refused(number, offset),
     }
 }
 

@@ -5,7 +5,7 @@ mod documents; // documents.rt: CAP documents
 mod numbers; // numbers.rt: sheets as numbers
 mod packets; // packets.rt: WARN packets
 mod sentences; // sentences.rt: writing a sheet, and reading a text back
-mod tables; // tables.rt: the event table
+pub mod tables; // tables.rt: the event table as the caller lends it
 
 // What a function gives back: the number of a refusal, 0 for none, and the value.
 pub struct Answer {

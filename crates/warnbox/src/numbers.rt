@@ -1,4 +1,5 @@
 // Sheets as numbers: what each of the 15 stands for is in include/warnbox.h and in specs/Numbers.antt.
+use codes::values;
 use sheet::CapFacts;
 use sheet::Found;
 use sheet::Lasting;
@@ -6,7 +7,6 @@ use sheet::Part;
 use sheet::Parts;
 use sheet::Span;
 use sheet::WarnFacts;
-use sheet::codes;
 ghost use mathlib.Core.Path.{_≡_};
 ghost use mathlib.Core.Bool.{true, cond};
 ghost use Prim.Native.Nat.{_<_};
@@ -75,9 +75,9 @@ fn part_from(n: &[u64; 15]) -> Part
     Part {
         number: n[4] as u8,
         total: n[5] as u8,
-        urgency: codes::urgency_at(n[6] as usize),
-        severity: codes::severity_at(n[7] as usize),
-        certainty: codes::certainty_at(n[8] as usize),
+        urgency: values::urgency_at(n[6] as usize),
+        severity: values::severity_at(n[7] as usize),
+        certainty: values::certainty_at(n[8] as usize),
         lasting: lasting_from(n[9], n[10]),
     }
 }
@@ -87,9 +87,9 @@ fn parts_from(n: &[u64; 15]) -> Parts
     ensures { λ r. ⌜ r ≡ capFrom (now (n .entry)) .parts ⌝ }
 {
     if has_no_part(n) {
-        return Parts::Nothing;
+        return Parts::NoPart;
     }
-    Parts::One(part_from(n))
+    Parts::OnePart(part_from(n))
 }
 
 // The CAP sheet that numbers stand for, but its sender and name.
@@ -98,9 +98,9 @@ pub fn cap_from(n: &[u64; 15]) -> CapFacts
     ensures { λ r. ⌜ r ≡ capFrom (now (n .entry)) ⌝ }
 {
     CapFacts {
-        message: codes::message_at(n[1] as usize),
-        status: codes::status_at(n[2] as usize),
-        scope: codes::scope_at(n[3] as usize),
+        message: values::message_at(n[1] as usize),
+        status: values::status_at(n[2] as usize),
+        scope: values::scope_at(n[3] as usize),
         parts: parts_from(n),
     }
 }
@@ -232,9 +232,9 @@ fn numbers_of_part(
         scope,
         p.number as u64,
         p.total as u64,
-        codes::urgency_number(urgency) as u64,
-        codes::severity_number(severity) as u64,
-        codes::certainty_number(certainty) as u64,
+        values::urgency_number(urgency) as u64,
+        values::severity_number(severity) as u64,
+        values::certainty_number(certainty) as u64,
         stated_of(lasting),
         seconds_of(lasting),
         sender.start as u64,
@@ -252,12 +252,12 @@ fn cap_numbers(f: CapFacts, sender: Span, name: Span) -> [u64; 15]
     let status_code = f.status;
     let scope_code = f.scope;
     let parts = f.parts;
-    let message = codes::message_number(message_type) as u64;
-    let status = codes::status_number(status_code) as u64;
-    let scope = codes::scope_number(scope_code) as u64;
+    let message = values::message_number(message_type) as u64;
+    let status = values::status_number(status_code) as u64;
+    let scope = values::scope_number(scope_code) as u64;
     match parts {
-        Parts::Nothing => numbers_of_none(message, status, scope, sender, name),
-        Parts::One(p) => numbers_of_part(message, status, scope, sender, name, p),
+        Parts::NoPart => numbers_of_none(message, status, scope, sender, name),
+        Parts::OnePart(p) => numbers_of_part(message, status, scope, sender, name, p),
     }
 }
 

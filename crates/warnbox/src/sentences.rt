@@ -76,6 +76,18 @@ pub extern "C" fn warnbox_count(text: &[u8], value: &mut u64) -> u8
     answer.number
 }
 
+// The numbers that reading back leaves: those of the sheet that was found, or what was there.
+fn numbers_left(read: ReadBack, before: [u64; 15]) -> [u64; 15]
+    ensures { λ r. ⌜ r ≡ numbersRead before read ⌝ }
+{
+    match read {
+        ReadBack::Count(n) => before,
+        ReadBack::Sheet(n, found) => numbers::numbers_of(found),
+        ReadBack::NotReadBack(offset) => before,
+        ReadBack::NotThere => before,
+    }
+}
+
 // Gives the sheet of a read-back of a text, counted from 1; the value is the number of read-backs.
 #[no_mangle]
 pub extern "C" fn warnbox_read_back(
@@ -91,13 +103,6 @@ pub extern "C" fn warnbox_read_back(
     let read = reader::read_back(text, k);
     let answer = read_answer(read);
     *value = answer.value;
-    match read {
-        ReadBack::Count(n) => {}
-        ReadBack::Sheet(n, found) => {
-            *sheet = numbers::numbers_of(found);
-        }
-        ReadBack::NotReadBack(place) => {}
-        ReadBack::NotThere => {}
-    }
+    *sheet = numbers_left(read, *sheet);
     answer.number
 }

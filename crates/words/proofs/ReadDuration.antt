@@ -11,17 +11,17 @@ use lib.ListN.{length, drop, length-append}
 use lib.Seq.{drop-at}
 use borrow.Author.Tests.{le-ltb, eqb-true, eqb-false, not-true}
 use Rattle.text.specs.Logic.{by-test, and-left, and-right}
-use Rattle.words.specs.declared.Heard.{Heard}
+use Rattle.words.specs.declared.Quantity.{Quantity}
 use Rattle.words.specs.Words.{dictionary, word, spaced, said}
 use Rattle.words.specs.Duration.{day, days, hour, hours, minute, minutes, second, seconds, counted, durationCodes, lasting, duration}
-use Rattle.words.specs.Reading.{isLetter, letters, wordAt, placeIn, codeOf, kept, nothing, numberAt, endsNumber, unitSeconds, countOf, unitWord, counts, durationAt, endsDuration}
-use Rattle.words.proofs.Steps.{heard, unit-range, code-of-word, number-stop, counts-on, counts-stop}
+use Rattle.words.specs.Reading.{isLetter, letters, wordAt, indexIn, codeOf, kept, nothing, numberAt, endsNumber, unitSeconds, countOf, unitWord, counts, durationAt, endsDuration}
+use Rattle.words.proofs.Steps.{quantity, unit-range, code-of-word, number-stop, counts-on, counts-stop}
 use Rattle.words.proofs.Cases.{spaced-one, spaced-cons, spaced-append, counted-none, counted-one, counted-many}
 use Rattle.words.proofs.ReadNumber.{word-at, word-letters, spaced-no-letter, ends-end, ends-letter, ends-byte, ends-word, read-said, read-once}
 
--- ---- what may stand behind a duration
+-- ---- what may stand after a duration
 
--- it may stand behind a number
+-- it may stand after a number
 pub ends-number : (l : List ℕ) → endsDuration l ≡ true → endsNumber l ≡ true
 unfolding endsDuration
 ends-number [] e = ends-end
@@ -37,7 +37,7 @@ no-word (b ∷ l) e = rw (not-true (eqb b (code " ")) (and-right (not (isLetter 
 
 -- no count is read there
 no-count : (l : List ℕ) → endsDuration l ≡ true → eqb (unitSeconds (codeOf (unitWord l))) 0 ≡ true
-unfolding numberAt codeOf placeIn dictionary
+unfolding numberAt codeOf indexIn dictionary
 no-count l e =
     let w = no-word l e in
     let n = number-stop 0 l nothing (rw w) in
@@ -48,10 +48,10 @@ no-count l e =
 -- a turn at a text that begins with the number n, up to the place e, and then the word w, whose code is u
 count-turn :
     (i s n e u y : ℕ) (l w rest : List ℕ)
-    → numberAt 0 l ≡ heard n e → wordAt (drop e l) ≡ w → codeOf w ≡ u → drop (e + (1 + length w)) l ≡ rest → unitSeconds u ≡ y → eqb y 0 ≡ false
+    → numberAt 0 l ≡ quantity n e → wordAt (drop e l) ≡ w → codeOf w ≡ u → drop (e + (1 + length w)) l ≡ rest → unitSeconds u ≡ y → eqb y 0 ≡ false
     → counts (length l) i l s ≡ counts (length rest) (i + (e + (1 + length w))) rest (kept (s + n * y))
 count-turn i s n e u y l w rest a b c d f z =
-    let v : countOf l ≡ n = ap (λ (x : Heard). x .value) a in
+    let v : countOf l ≡ n = ap (λ (x : Quantity). x .value) a in
     rw (a, b, c, d, f, v) at (counts-on i l s (rw (a, b, c, f) z))
 
 -- a number and the word of a unit
@@ -119,7 +119,7 @@ read-duration s i rest l e =
     ∙ read-counted minute minutes 60 refl refl refl nm ih (s / 3_600 * 3_600) (s / 60 * 60) (x ++ rest) (omega arith) (omega arith) (omega arith) rx
     ∙ read-counted second seconds 1 refl refl refl ns im (s / 60 * 60) s rest (omega arith) (omega arith) (omega arith) r
     ∙ counts-stop (im + length x) rest s (no-count rest e)
-    ∙ ap (heard s) (simp length-append (omega arith)))
+    ∙ ap (quantity s) (simp length-append (omega arith)))
 
 -- a lasting time
 pub read-lasting :
@@ -140,7 +140,7 @@ lasting-injective s t rest rest′ hs ht e e′ =
 no-codes : (s : ℕ) → 1 ≤ s → s < 4_294_967_296 → durationCodes s ≡ [] → ⊥
 unfolding lasting spaced endsDuration durationAt counts
 no-codes s a l e =
-    let z : 0 ≡ s = ap (λ (x : Heard). x .value) (rw e at (read-duration s 0 [] l refl)) in
+    let z : 0 ≡ s = ap (λ (x : Quantity). x .value) (rw e at (read-duration s 0 [] l refl)) in
     omega arith
 
 pub lasting-cons : (s : ℕ) → 1 ≤ s → s < 4_294_967_296 → lasting s ≡ code " " ∷ duration s

@@ -12,22 +12,20 @@ use borrow.Author.Tests.{lt-ltb, le-ltb, eqb-true, not-true}
 use Rattle.text.specs.Ascii.{ascii}
 use Rattle.text.specs.Logic.{by-test, and-left, and-right, below-at}
 use Rattle.words.specs.declared.Groups.{Groups}
-use Rattle.words.specs.declared.Heard.{Heard}
+use Rattle.words.specs.declared.Quantity.{Quantity}
 use Rattle.words.specs.Words.{dictionary, word, spaced, numberCodes, said, words}
-use Rattle.words.specs.Reading.{isLetter, letters, wordAt, placeIn, codeOf, isNumberWord, step, nothing, total, numberWords, numberAt, endsNumber}
-use Rattle.words.proofs.Steps.{heard, code-of-word, number-on, number-stop}
+use Rattle.words.specs.Reading.{isLetter, letters, wordAt, indexIn, codeOf, isNumberWord, step, nothing, total, numberWords, numberAt, endsNumber}
+use Rattle.words.proofs.Steps.{quantity, code-of-word, number-on, number-stop}
 use Rattle.words.proofs.Cases.{spaced-cons, codes-zero}
 use Rattle.words.proofs.Value.{steps, total-steps, NumberCodes, number-codes}
 
 -- ---- a word in a text
 
 pub no-letter : (b : ℕ) (l : List ℕ) → isLetter b ≡ false → letters (b ∷ l) ≡ 0
-unfolding letters
 no-letter b l e = rw e
 
 -- letters, and a text that begins with none
 pub letters-append : (w rest : List ℕ) → letters w ≡ length w → letters rest ≡ 0 → letters (w ++ rest) ≡ length w
-unfolding letters
 letters-append [] rest e z = z
 letters-append (b ∷ w) rest e z =
     by-test (isLetter b)
@@ -40,7 +38,7 @@ unfolding wordAt
 word-at w rest e z = take-at w rest (letters (w ++ rest)) (sym (letters-append w rest e z))
 
 all-letters : ℕ → Bool
-unfolding letters word dictionary
+unfolding word dictionary
 all-letters k = eqb (letters (word k)) (length (word k))
 
 pub word-letters : (k : ℕ) → k < 40 → letters (word k) ≡ length (word k)
@@ -48,11 +46,11 @@ unfolding all-letters
 word-letters k h = eqb-true (letters (word k)) (length (word k)) (below-at 40 all-letters tt k h)
 
 pub spaced-no-letter : (ws rest : List ℕ) → letters rest ≡ 0 → letters (spaced ws ++ rest) ≡ 0
-unfolding letters spaced
+unfolding spaced
 spaced-no-letter [] rest z = z
 spaced-no-letter (w ∷ ws) rest z = refl
 
--- ---- what may stand behind a number
+-- ---- what may stand after a number
 
 pub ends-letter : (l : List ℕ) → endsNumber l ≡ true → letters l ≡ 0
 unfolding endsNumber
@@ -64,12 +62,12 @@ ends-word-at l e = not-true (isNumberWord (codeOf (wordAt l))) (and-right (eqb (
 
 -- nothing
 pub ends-end : endsNumber [] ≡ true
-unfolding endsNumber letters wordAt codeOf placeIn dictionary
+unfolding endsNumber wordAt codeOf indexIn dictionary
 ends-end = refl
 
 -- a byte that is neither a letter nor a space
 pub ends-byte : (b : ℕ) (l : List ℕ) → isLetter b ≡ false → eqb b (code " ") ≡ false → endsNumber (b ∷ l) ≡ true
-unfolding endsNumber letters wordAt codeOf placeIn dictionary
+unfolding endsNumber wordAt codeOf indexIn dictionary
 ends-byte b l e s = rw (e, s)
 
 pub ends-comma : (l : List ℕ) → endsNumber (code "," ∷ l) ≡ true
@@ -81,13 +79,13 @@ ends-stop l = ends-byte (code ".") l refl refl
 pub ends-line : (l : List ℕ) → endsNumber (code "\n" ∷ l) ≡ true
 ends-line l = ends-byte (code "\n") l refl refl
 
--- a space and a word that is no number word; a text that begins with no letter stands behind it
+-- a space and a word that is no number word; a text that begins with no letter stands after it
 pub ends-word : (w rest : List ℕ) → letters w ≡ length w → isNumberWord (codeOf w) ≡ false → letters rest ≡ 0 → endsNumber (code " " ∷ (w ++ rest)) ≡ true
-unfolding endsNumber letters
+unfolding endsNumber
 ends-word w rest e n z = rw (word-at w rest e z, n)
 
 pub ends-of : (rest : List ℕ) → letters rest ≡ 0 → endsNumber (ascii " of" ++ rest) ≡ true
-unfolding letters codeOf placeIn dictionary
+unfolding codeOf indexIn dictionary
 ends-of rest z = ends-word (ascii "of") rest refl refl z
 
 pub ends-unit : (u : ℕ) (rest : List ℕ) → 32 ≤ u → u < 40 → letters rest ≡ 0 → endsNumber (spaced (u ∷ []) ++ rest) ≡ true
@@ -114,33 +112,33 @@ read-spaced :
     (ws : List ℕ) (i : ℕ) (rest : List ℕ) (g : Groups) → NumberCodes ws → endsNumber rest ≡ true
     → numberWords (length (spaced ws ++ rest)) i (spaced ws ++ rest) g ≡ record { value = total (steps ws g); end = i + length (spaced ws) }
 unfolding spaced steps
-read-spaced [] i rest g p e = number-stop i rest g (ends-word-at rest e) ∙ ap (heard (total g)) (omega arith)
+read-spaced [] i rest g p e = number-stop i rest g (ends-word-at rest e) ∙ ap (quantity (total g)) (omega arith)
 read-spaced (w ∷ ws) i rest g p e =
     rw append-assoc
     (number-word i w (spaced ws ++ rest) g (p .0) (spaced-no-letter ws rest (ends-letter rest e))
     ∙ read-spaced ws (i + (1 + length (word w))) rest (step w g) (p .1) e
-    ∙ ap (heard (total (steps ws (step w g)))) (simp length-append (omega arith)))
+    ∙ ap (quantity (total (steps ws (step w g)))) (simp length-append (omega arith)))
 
 pub read-said : (n i : ℕ) (rest : List ℕ) → n < 4_294_967_296 → endsNumber rest ≡ true → numberAt i (said n ++ rest) ≡ record { value = n; end = i + length (said n) }
 unfolding numberAt said
 read-said n i rest h e =
     read-spaced (numberCodes n) i rest nothing (number-codes n h) e
-    ∙ ap (λ (x : ℕ). heard x (i + length (spaced (numberCodes n)))) (total-steps n h)
+    ∙ ap (λ (x : ℕ). quantity x (i + length (spaced (numberCodes n)))) (total-steps n h)
 
 -- ---- one text, one number
 
 -- A reader that reads back what f wrote, in front of each of two rests, tells two texts apart.
 pub read-once :
-    (f : ℕ → List ℕ) (read : List ℕ → Heard) (n m : ℕ) (rest rest′ : List ℕ)
-    → read (f n ++ rest) ≡ heard n (0 + length (f n))
-    → read (f m ++ rest′) ≡ heard m (0 + length (f m))
+    (f : ℕ → List ℕ) (read : List ℕ → Quantity) (n m : ℕ) (rest rest′ : List ℕ)
+    → read (f n ++ rest) ≡ quantity n (0 + length (f n))
+    → read (f m ++ rest′) ≡ quantity m (0 + length (f m))
     → f n ++ rest ≡ f m ++ rest′
     → (n ≡ m) × (rest ≡ rest′)
 read-once f read n m rest rest′ a b q =
     let h = sym a ∙ ap read q ∙ b in (
-      ap (λ (x : Heard). x .value) h,
+      ap (λ (x : Quantity). x .value) h,
       sym (drop-at (f n) rest (0 + length (f n)) (omega arith))
-          ∙ ap₂ drop (ap (λ (x : Heard). x .end) h) q
+          ∙ ap₂ drop (ap (λ (x : Quantity). x .end) h) q
           ∙ drop-at (f m) rest′ (0 + length (f m)) (omega arith),
     )
 

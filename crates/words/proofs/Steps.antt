@@ -9,45 +9,45 @@ use lib.ListN.{length, getD, drop, length-take, length-drop}
 use borrow.Author.Tests.{ltb-true, ltb-false, eqb-true, le-ltb}
 use Rattle.text.specs.Logic.{by-test, below-at, eql, eql-true}
 use Rattle.words.specs.declared.Groups.{Groups}
-use Rattle.words.specs.declared.Heard.{Heard}
+use Rattle.words.specs.declared.Quantity.{Quantity}
 use Rattle.words.specs.Words.{dictionary, word}
-use Rattle.words.specs.Reading.{wordAt, placeIn, codeOf, kept, isNumberWord, step, nothing, total, numberWords, numberAt, unitSeconds, countOf, unitWord, countLength, counts, durationAt}
+use Rattle.words.specs.Reading.{wordAt, indexIn, codeOf, kept, isNumberWord, step, nothing, total, numberWords, numberAt, unitSeconds, countOf, unitWord, countLength, counts, durationAt}
 
 -- ---- the code of a word
 
-place-from : (ds : List (List ℕ)) (i : ℕ) (w : List ℕ) → i ≤ placeIn ds i w
-unfolding placeIn
-place-from [] i w = omega arith
-place-from (d ∷ ds) i w =
-    by-test (eql w d) (λ e. rw e (omega arith)) (λ e. rw e (omega (arith, place-from ds (suc i) w)))
+index-from : (ds : List (List ℕ)) (i : ℕ) (w : List ℕ) → i ≤ indexIn ds i w
+unfolding indexIn
+index-from [] i w = omega arith
+index-from (d ∷ ds) i w =
+    by-test (eql w d) (λ e. rw e (omega arith)) (λ e. rw e (omega (arith, index-from ds (suc i) w)))
 
-place-le : (ds : List (List ℕ)) (i : ℕ) (w : List ℕ) → placeIn ds i w ≤ i + length ds
-unfolding placeIn
-place-le [] i w = omega arith
-place-le (d ∷ ds) i w =
-    by-test (eql w d) (λ e. rw e (omega arith)) (λ e. rw e (omega (arith, place-le ds (suc i) w)))
+index-le : (ds : List (List ℕ)) (i : ℕ) (w : List ℕ) → indexIn ds i w ≤ i + length ds
+unfolding indexIn
+index-le [] i w = omega arith
+index-le (d ∷ ds) i w =
+    by-test (eql w d) (λ e. rw e (omega arith)) (λ e. rw e (omega (arith, index-le ds (suc i) w)))
 
 -- the word at the place that was found
-place-word : (ds : List (List ℕ)) (i k : ℕ) (w : List ℕ) → k < length ds → placeIn ds i w ≡ i + k → w ≡ getD ds k []
-unfolding placeIn
-place-word [] i k w h e = absurd (omega arith)
-place-word (d ∷ ds) i zero w h e =
-    by-test (eql w d) (eql-true w d) (λ t. absurd (omega (arith, place-from ds (suc i) w, rw t at e)))
-place-word (d ∷ ds) i (suc k) w h e =
+index-word : (ds : List (List ℕ)) (i k : ℕ) (w : List ℕ) → k < length ds → indexIn ds i w ≡ i + k → w ≡ getD ds k []
+unfolding indexIn
+index-word [] i k w h e = absurd (omega arith)
+index-word (d ∷ ds) i zero w h e =
+    by-test (eql w d) (eql-true w d) (λ t. absurd (omega (arith, index-from ds (suc i) w, rw t at e)))
+index-word (d ∷ ds) i (suc k) w h e =
     by-test (eql w d)
     (λ t. absurd (omega (arith, rw t at e)))
-    (λ t. place-word ds (suc i) k w (omega arith) (omega (arith, rw t at e)))
+    (λ t. index-word ds (suc i) k w (omega arith) (omega (arith, rw t at e)))
 
 pub code-le : (w : List ℕ) → codeOf w ≤ 40
 unfolding codeOf dictionary
-code-le w = place-le dictionary 0 w
+code-le w = index-le dictionary 0 w
 
 pub known-word : (w : List ℕ) → codeOf w < 40 → w ≡ word (codeOf w)
 unfolding codeOf word dictionary
-known-word w h = place-word dictionary 0 (placeIn dictionary 0 w) w h (omega arith)
+known-word w h = index-word dictionary 0 (indexIn dictionary 0 w) w h (omega arith)
 
 own-code : ℕ → Bool
-unfolding codeOf placeIn word dictionary
+unfolding codeOf indexIn word dictionary
 own-code k = eqb (codeOf (word k)) k
 
 pub code-of-word : (k : ℕ) → k < 40 → codeOf (word k) ≡ k
@@ -56,7 +56,7 @@ code-of-word k h = eqb-true (codeOf (word k)) k (below-at 40 own-code tt k h)
 
 -- a word of the dictionary has a letter
 pub word-letter : (w : List ℕ) → codeOf w < 40 → 0 < length w
-unfolding codeOf placeIn dictionary
+unfolding codeOf indexIn dictionary
 word-letter [] h = absurd (omega arith)
 word-letter (b ∷ w) h = omega arith
 
@@ -92,9 +92,9 @@ number-word-within l e = word-within l (number-letter (wordAt l) e)
 
 -- ---- one turn of the number loop
 
--- a value and the place behind it
-abbrev pub heard : ℕ → ℕ → Heard
-heard v e = record { value = v; end = e }
+-- a value and the place after it
+abbrev pub quantity : ℕ → ℕ → Quantity
+quantity v e = record { value = v; end = e }
 
 -- a turn takes at least a space and a letter, so more turns than the text has bytes add nothing
 pub enough : (n m i : ℕ) (l : List ℕ) (g : Groups) → length l ≤ n → length l ≤ m → numberWords n i l g ≡ numberWords m i l g
@@ -146,24 +146,24 @@ number-within (suc n) i l g =
 
 -- a reader whose end moves with the place of the text, k bytes further on
 moved :
-    (k : ℕ) (read : ℕ → Heard)
+    (k : ℕ) (read : ℕ → Quantity)
     → ((j : ℕ) → read j ≡ record { value = read 0 .value; end = j + read 0 .end })
     → (i : ℕ) → read (i + k) ≡ record { value = read (0 + k) .value; end = i + read (0 + k) .end }
 moved k read h i =
     let z = h (0 + k) in
-    h (i + k) ∙ ap₂ heard (sym (ap (λ (x : Heard). x .value) z)) (omega (arith, ap (λ (x : Heard). x .end) z))
+    h (i + k) ∙ ap₂ quantity (sym (ap (λ (x : Quantity). x .value) z)) (omega (arith, ap (λ (x : Quantity). x .end) z))
 
 -- the place of the text only moves the end
 pub number-shift : (n i : ℕ) (l : List ℕ) (g : Groups) → numberWords n i l g ≡ record { value = numberWords n 0 l g .value; end = i + numberWords n 0 l g .end }
 unfolding numberWords
-number-shift zero i l g = ap (heard (total g)) (omega arith)
+number-shift zero i l g = ap (quantity (total g)) (omega arith)
 number-shift (suc n) i l g =
     let k = 1 + length (wordAt l) in
     let r = drop k l in
     let s = step (codeOf (wordAt l)) g in
     by-test (isNumberWord (codeOf (wordAt l)))
     (λ e. rw e (moved k (λ (j : ℕ). numberWords n j r s) (λ (j : ℕ). number-shift n j r s) i))
-    (λ e. rw e (ap (heard (total g)) (omega arith)))
+    (λ e. rw e (ap (quantity (total g)) (omega arith)))
 
 pub number-value : (n i : ℕ) (l : List ℕ) (g : Groups) → numberWords n i l g .value < 4_294_967_296
 unfolding numberWords
@@ -232,13 +232,13 @@ counts-within (suc n) i l s =
 
 pub counts-shift : (n i : ℕ) (l : List ℕ) (s : ℕ) → counts n i l s ≡ record { value = counts n 0 l s .value; end = i + counts n 0 l s .end }
 unfolding counts
-counts-shift zero i l s = ap (heard s) (omega arith)
+counts-shift zero i l s = ap (quantity s) (omega arith)
 counts-shift (suc n) i l s =
     let k = countLength l in
     let r = drop k l in
     let t = kept (s + countOf l * unitSeconds (codeOf (unitWord l))) in
     by-test (eqb (unitSeconds (codeOf (unitWord l))) 0)
-    (λ e. rw e (ap (heard s) (omega arith)))
+    (λ e. rw e (ap (quantity s) (omega arith)))
     (λ e. rw e (moved k (λ (j : ℕ). counts n j r t) (λ (j : ℕ). counts-shift n j r t) i))
 
 pub counts-value : (n i : ℕ) (l : List ℕ) (s : ℕ) → s < 4_294_967_296 → counts n i l s .value < 4_294_967_296

@@ -79,7 +79,7 @@ steps-thousand n t h =
     ∙ steps-hundred (n % 100) ((0 + n / 100) * 100) t (omega arith) (omega arith)
     ∙ ap (groups t) (omega arith)))
 
--- a group that counts x, behind groups that count t
+-- a group that counts x, after groups that count t
 steps-group :
     (n u t x : ℕ) → n < 1_000 → hundred < u → n * groupUnit u ≡ x → (n ≡ 0 → x ≡ 0) → t + x < 4_294_967_296
     → steps (group n u) (groups t 0) ≡ groups (t + x) 0
@@ -94,7 +94,7 @@ steps-group n u t x h hu e z l =
     ∙ step-group u n t hu (rw e l)
     ∙ ap (λ (y : ℕ). groups (t + y) 0) e))
 
--- the same with words behind it
+-- the same with words after it
 group-then :
     (n u t x : ℕ) (ws : List ℕ) → n < 1_000 → hundred < u → n * groupUnit u ≡ x → (n ≡ 0 → x ≡ 0) → t + x < 4_294_967_296
     → steps (group n u ++ ws) (groups t 0) ≡ steps ws (groups (t + x) 0)

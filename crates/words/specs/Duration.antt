@@ -46,7 +46,7 @@ durationCodes s =
     ++ (counted (s / 60 % 60) minute minutes
     ++ counted (s % 60) second seconds))
 
--- a number of seconds in words, each behind a space, as it stands in a sentence
+-- a number of seconds in words, each after a space, as it stands in a sentence
 unfoldable pub lasting : ℕ → List ℕ
 lasting s = spaced (durationCodes s)
 

@@ -41,7 +41,7 @@ million = 30
 abbrev pub billion : ℕ
 billion = 31
 
--- the words of codes, each behind a space
+-- the words of codes, each after a space
 unfoldable pub spaced : List ℕ → List ℕ
 spaced [] = []
 spaced (w ∷ ws) = code " " ∷ (word w ++ spaced ws)
@@ -74,7 +74,7 @@ numberCodes n =
     ++ (group (n / 1_000 % 1_000) thousand
     ++ belowThousand (n % 1_000))))
 
--- a number in words, each behind a space, as it stands in a sentence
+-- a number in words, each after a space, as it stands in a sentence
 unfoldable pub said : ℕ → List ℕ
 said n = spaced (numberCodes n)
 

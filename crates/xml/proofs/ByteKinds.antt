@@ -5,7 +5,7 @@ use Prim.Native.Nat.{ℕ, _-_, _/_, _^_, _≤_, _<_}
 use Prim.Native.Char.{code}
 use native.Mathlib.Omega.{arith}
 use lib.Bits.{bitAnd}
-use lib.Dec.{eqb, ltb}
+use lib.Dec.{eqb, leb, ltb}
 use borrow.Author.Tests.{lt-ltb, le-ltb, ne-eqb, not-true}
 use Rattle.text.specs.Logic.{and-left, below-at}
 use Rattle.xml.specs.Bytes.{isTagByte, isControl, isPlain}
@@ -55,6 +55,14 @@ module _ (b : ℕ) where
   pub tag-none : 128 ≤ b → b < 256 → false ≡ isTagByte b
   unfolding inMasks
   tag-none g h = let k : 64 ≤ b = omega arith in rw (le-ltb b 64 k, le-ltb b 128 g) at (masked b h)
+
+-- small letters are among them
+small-right : ℕ → Bool
+small-right b = cond (leb (code "a") b && leb b (code "z")) (isTagByte b) true
+
+pub tag-small : (b : ℕ) → b < 256 → leb (code "a") b && leb b (code "z") ≡ true → true ≡ isTagByte b
+unfolding small-right
+tag-small b h e = sym (sym (ap (λ (t : Bool). cond t (isTagByte b) true) e) ∙ below-at 256 small-right tt b h)
 
 -- ---- what a byte of a kind is not
 

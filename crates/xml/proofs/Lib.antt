@@ -1,12 +1,9 @@
 pub mod ByteKinds
 pub mod Places
 pub mod Searches
-pub mod Runs
+pub mod Contents
+pub mod Declaration
 pub mod Ends
 pub mod Binding
-pub mod Dashes
-pub mod Faults
-pub mod Declaration
-pub mod Bounds
 pub mod Skips
-pub mod Clean
+pub mod Bounds

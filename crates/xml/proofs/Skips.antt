@@ -1,4 +1,4 @@
--- A tag ends where it ends from behind its name on, and from behind its "/" on.
+-- A tag ends where it ends from after its name on, and from after its "/" on.
 use mathlib.Core.Path.{_≡_, refl, ap, _∙_}
 use mathlib.Core.Bool.{Bool, true, false, false≢true}
 use mathlib.Core.List.{List, [], _∷_}
@@ -13,7 +13,7 @@ use Rattle.text.specs.Logic.{and-left}
 use Rattle.xml.specs.Bytes.{isTagByte}
 use Rattle.xml.specs.Tags.{tagEnd, nameEnd}
 use Rattle.xml.proofs.ByteKinds.{other-byte}
-use Rattle.xml.proofs.Runs.{over-run}
+use Rattle.text.proofs.Runs.{over-run}
 
 -- a byte that passes a test which ">" and both quotes fail neither ends a tag nor opens a quote
 step :

@@ -27,17 +27,21 @@ capNameSpace = ascii "urn:oasis:names:tc:emergency:cap:1.2"
 abbrev pub quoted : ℕ → List ℕ
 quoted q = q ∷ capNameSpace ++ (q ∷ [])
 
+-- how many bytes that has
+abbrev pub quotedLength : ℕ
+quotedLength = 38
+
 -- a tag that binds the prefix from p to u, by what ends it
 abbrev pub bound : ℕ → ℕ → Tail → NameSpace
 bound p u (tail.Open next) = Bound p u next
 bound p u (tail.Empty next) = Empty
 bound p u tail.Fault = Fault
 
--- the value, and nothing behind it: "one attribute only"
+-- the value, and nothing after it: "one attribute only"
 unfoldable pub value : List ℕ → ℕ → ℕ → ℕ → NameSpace
 value l p u at =
     cond (startsWith (quoted (code "\"")) (drop at l) || startsWith (quoted (code "'")) (drop at l))
-    (bound p u (tags.tail l (at + 38)))
+    (bound p u (tags.tail l (at + quotedLength)))
     Fault
 
 -- "white space may .. surround "=""
@@ -51,17 +55,17 @@ equals l p u at = equalsAt l p u (skipped l at)
 unfoldable pub prefixed : List ℕ → ℕ → ℕ → NameSpace
 prefixed l p u = cond (leb 1 (u - p) && leb (u - p) 16) (equals l p u u) Fault
 
--- "as default or under a prefix": behind "xmlns"
+-- "as default or under a prefix": after "xmlns"
 unfoldable pub declared : List ℕ → ℕ → NameSpace
 declared l at =
     cond (startsWith (ascii ":") (drop at l))
     (prefixed l (at + 1) (at + 1 + leading isLetter (drop (at + 1) l)))
     (equals l at at at)
 
--- the attribute behind a name that ends at n: white space before it, then "xmlns"
+-- the attribute after a name that ends at n: white space before it, then "xmlns"
 abbrev attributeAt : List ℕ → ℕ → ℕ → NameSpace
 attributeAt l n at = cond (ltb n at && startsWith (ascii "xmlns") (drop at l)) (declared l (at + 5)) Fault
 
--- "The alert start tag has one attribute only": the prefix that it binds, and the place behind the tag
+-- "The alert start tag has one attribute only": the prefix that it binds, and the place after the tag
 unfoldable pub nameSpace : List ℕ → ℕ → NameSpace
 nameSpace l n = attributeAt l n (skipped l n)

@@ -5,6 +5,7 @@ use Prim.Native.Nat.{ℕ, suc}
 use Prim.Native.Char.{code}
 use lib.Dec.{eqb, leb, ltb}
 use Rattle.text.specs.Bytes.{isDigit}
+pub use Rattle.text.specs.Bytes.{leading}
 
 abbrev pub isLetter : ℕ → Bool
 isLetter b = (leb (code "A") b && leb b (code "Z")) || (leb (code "a") b && leb b (code "z"))
@@ -20,8 +21,3 @@ isControl b = ltb b 0x20 && not (eqb b (code "\t")) && not (eqb b (code "\n")) &
 -- what stands in a text without a fault whatever follows it, and doesn't end it
 abbrev pub isPlain : ℕ → Bool
 isPlain b = not (isControl b) && not (eqb b (code "<")) && not (eqb b (code "&")) && not (eqb b (code "]"))
-
--- how many bytes that pass a test lead a text
-unfoldable pub leading : (ℕ → Bool) → List ℕ → ℕ
-leading p [] = 0
-leading p (b ∷ l) = cond (p b) (suc (leading p l)) 0

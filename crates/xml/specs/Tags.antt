@@ -14,7 +14,7 @@ use Rattle.xml.specs.declared.Tail.{Tail}
 use Rattle.xml.specs.declared.Tail.the-variants.{Open, Empty, Fault}
 use Rattle.xml.specs.Bytes.{isTagByte, leading}
 
--- the quote that is open behind a byte, 0 for none; q is the one open before it
+-- the quote that is open after a byte, 0 for none; q is the one open before it
 abbrev pub quoteAfter : ℕ → ℕ → ℕ
 quoteAfter q b = cond (eqb q 0) (cond (eqb b (code "\"") || eqb b (code "'")) b 0) (cond (eqb b q) 0 q)
 
@@ -27,7 +27,7 @@ tagEnd q i (b ∷ l) = cond (eqb q 0 && eqb b (code ">")) (At i) (tagEnd (quoteA
 abbrev pub nameEnd : List ℕ → ℕ → ℕ
 nameEnd l at = at + leading isTagByte (drop at l)
 
--- "white space may precede ">" or "/>"": what ends a tag from a place on, with the place behind it
+-- "white space may precede ">" or "/>"": what ends a tag from a place on, with the place after it
 abbrev tailAt : List ℕ → ℕ → Tail
 tailAt l at =
     cond (startsWith (ascii ">") (drop at l)) (Open (at + 1))

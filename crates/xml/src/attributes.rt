@@ -9,6 +9,9 @@ ghost use lib.ListN.{drop};
 ghost use Rattle.xml.specs.Bytes.{isLetter, leading};
 ghost use Rattle.xml.specs.Attributes.{bound, value, equals, prefixed, declared, nameSpace};
 
+// The bytes of the name space in its quotes.
+const QUOTED_LENGTH: usize = 38;
+
 // The first place from `at` on that holds no letter.
 fn skip_letters(s: &[u8], at: usize) -> usize
     ensures { λ r. ⌜ r ≡ at + leading isLetter (drop at (now (s .entry))) ⌝ }
@@ -41,7 +44,7 @@ fn read_value(s: &[u8], p: usize, u: usize, at: usize) -> NameSpace
 {
     let double = text::starts_at(s, at, b"\"urn:oasis:names:tc:emergency:cap:1.2\"");
     if double | text::starts_at(s, at, b"'urn:oasis:names:tc:emergency:cap:1.2'") {
-        return bind(p, u, read_tail(s, at + 38));
+        return bind(p, u, read_tail(s, at + QUOTED_LENGTH));
     }
     NameSpace::Fault
 }
@@ -70,7 +73,7 @@ fn read_prefixed(s: &[u8], p: usize, u: usize) -> NameSpace
     read_equals(s, p, u, u)
 }
 
-// What stands behind "xmlns".
+// What stands after "xmlns".
 fn read_declared(s: &[u8], at: usize) -> NameSpace
     ensures { λ r. ⌜ r ≡ declared (now (s .entry)) at ⌝ }
 {
@@ -80,7 +83,7 @@ fn read_declared(s: &[u8], at: usize) -> NameSpace
     read_equals(s, at, at, at)
 }
 
-// The name space attribute behind a tag's name that ends at n, and the tag's end.
+// The name space attribute after a tag's name that ends at n, and the tag's end.
 pub fn read_name_space(s: &[u8], n: usize) -> NameSpace
     ensures { λ r. ⌜ r ≡ nameSpace (now (s .entry)) n ⌝ }
 {

@@ -14,10 +14,13 @@ pub fn is_letter(b: u8) -> bool
     ((b'A' <= b) & (b <= b'Z')) | ((b'a' <= b) & (b <= b'z'))
 }
 
-// Whether a tag name may hold a byte.
+// Whether a tag name may hold a byte: small letters first, which most are.
 pub fn is_tag_byte(b: u8) -> bool
     ensures { λ r. ⌜ r ≡ isTagByte b ⌝ }
 {
+    if (b'a' <= b) & (b <= b'z') {
+        return true;
+    }
     if b < 64 {
         return (TAG_LOW >> b) & 1 == 1;
     }

@@ -6,6 +6,7 @@ pub mod opening; // opening.rt: byte order mark and declaration
 pub mod tags; // tags.rt: where tags and their names end
 pub mod texts; // texts.rt: texts of leaf elements
 mod bytes; // bytes.rt: bytes by their kind
+mod faults; // faults.rt: what has a fault, by whether its end follows
 
 // Where something stands, or that it stands nowhere.
 pub enum Found {
@@ -13,36 +14,36 @@ pub enum Found {
     Nothing,
 }
 
-// What ends a tag behind its name or attribute: ">" or "/>", with the place behind it, or something else.
+// What ends a tag after its name or attribute: ">" or "/>", with the place after it, or something else.
 pub enum Tail {
     Open(usize),
     Empty(usize),
     Fault,
 }
 
-// The name space attribute of a tag: the prefix it binds (from, until), and the place behind the tag; an empty tag; or a fault.
+// The name space attribute of a tag: the prefix it binds (from, until), and the place after the tag; an empty tag; or a fault.
 pub enum NameSpace {
     Bound(usize, usize, usize),
     Empty,
     Fault,
 }
 
-// A comment, behind its opening: the place behind it, a fault in it, or no end.
+// A comment, after its opening: the place after it, a fault in it, or no end.
 pub enum Comment {
-    Behind(usize),
+    After(usize),
     Fault,
     Unended,
 }
 
-// A text: where it ends, the place of its first fault, or no end.
+// What stands in a text, a comment or a declaration: where it ends, the place of its first fault, or no end.
 pub enum Content {
     Clean(usize),
     Fault(usize),
     Unended,
 }
 
-// What stands before the first construct: the place behind it, or the place of the refusal.
+// What stands before the first construct: the place after it, or the place of the refusal.
 pub enum Prolog {
-    Behind(usize),
+    After(usize),
     Fault(usize),
 }

@@ -7,7 +7,7 @@ ghost use Prim.Native.Nat.{_+_};
 ghost use lib.ListN.{drop};
 ghost use Rattle.xml.specs.Tags.{quoteAfter, tagEnd, nameEnd, tail};
 
-// The quote that is open behind the byte b, 0 for none; q is the one open before it.
+// The quote that is open after the byte b, 0 for none; q is the one open before it.
 fn quote_after(q: u8, b: u8) -> u8
     ensures { λ r. ⌜ r ≡ quoteAfter q b ⌝ }
 {

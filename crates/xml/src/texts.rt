@@ -1,29 +1,15 @@
 // Texts of leaf elements.
 use crate::Content;
-use crate::Found;
 use crate::bytes::is_control;
 use crate::bytes::is_plain;
+use crate::faults::faulty;
 ghost use mathlib.Core.Path.{_≡_};
+ghost use mathlib.Core.Bool.{not};
 ghost use Prim.Native.Nat.{_+_, _≤_};
-ghost use lib.Dec.{leb};
+ghost use lib.Dec.{eqb, leb};
 ghost use lib.ListN.{length, drop};
-ghost use Rattle.xml.specs.declared.Found.the-variants.{At};
-ghost use Rattle.xml.specs.Bytes.{isPlain, leading};
-ghost use Rattle.xml.specs.Texts.{textEnd, isReference, isFault, judged, content};
-
-// The place of the first "<" from `at` on.
-fn text_end(s: &[u8], at: usize) -> Found
-    ensures { λ r. ⌜ r ≡ textEnd at (drop at (now (s .entry))) ⌝ }
-{
-    let mut i = at;
-    while i < s.len() {
-        if s[i] == b'<' {
-            return Found::At(i);
-        }
-        i += 1;
-    }
-    Found::Nothing
-}
+ghost use Rattle.xml.specs.Bytes.{isControl, isPlain, leading};
+ghost use Rattle.xml.specs.Texts.{isReference, isFault, content};
 
 // Whether one of the five named references stands at a place.
 fn is_reference(s: &[u8], at: usize) -> bool
@@ -47,29 +33,56 @@ fn is_fault(s: &[u8], at: usize) -> bool
     is_control(b) | ((b == b'&') & !is_reference(s, at)) | text::starts_at(s, at, b"]]>")
 }
 
-// A text with its first fault at a place: its end is looked for from there on.
-fn faulty(s: &[u8], at: usize) -> Content
-    ensures { λ r. ⌜ r ≡ judged (At at) (textEnd at (drop at (now (s .entry)))) ⌝ }
+// Whether a byte is another one than x.
+fn is_other(b: u8, x: u8) -> bool
+    ensures { λ r. ⌜ r ≡ not (eqb b x) ⌝ }
 {
-    let end = text_end(s, at);
-    match end {
-        Found::At(e) => Content::Fault(at),
-        Found::Nothing => Content::Unended,
-    }
+    b != x
 }
 
-// Whether the 16 bytes from a place on are all plain. There is no branch in the loop, so that the compiler can test them at once.
+// Whether none of the 16 bytes from a place on is x. There is no branch in the loop, so that the compiler can test them at once.
+fn lacks(s: &[u8], at: usize, x: u8) -> bool
+    requires { ⌜ at + 16 ≤ length (now s) ⌝ }
+    ensures { λ r. ⌜ r ≡ leb 16 (leading (λ b. not (eqb b x)) (drop at (now (s .entry)))) ⌝ }
+{
+    let mut free = true;
+    let mut i: usize = 0;
+    while i < 16 {
+        free = free & is_other(s[at + i], x);
+        i += 1;
+    }
+    free
+}
+
+// Whether none of the 16 bytes from a place on is a control byte.
+fn lacks_control(s: &[u8], at: usize) -> bool
+    requires { ⌜ at + 16 ≤ length (now s) ⌝ }
+    ensures { λ r. ⌜ r ≡ leb 16 (leading (λ b. not (isControl b)) (drop at (now (s .entry)))) ⌝ }
+{
+    let mut free = true;
+    let mut k: usize = 0;
+    while k < 16 {
+        free = free & !is_control(s[at + k]);
+        k += 1;
+    }
+    free
+}
+
+// Whether the 16 bytes from a place on are all plain: one test after the other, since the compiler mixes up tests of several values in one loop.
 fn is_plain_block(s: &[u8], at: usize) -> bool
     requires { ⌜ at + 16 ≤ length (now s) ⌝ }
     ensures { λ r. ⌜ r ≡ leb 16 (leading isPlain (drop at (now (s .entry)))) ⌝ }
 {
-    let mut plain = true;
-    let mut i: usize = 0;
-    while i < 16 {
-        plain = plain & is_plain(s[at + i]);
-        i += 1;
+    if !lacks(s, at, b'<') {
+        return false;
     }
-    plain
+    if !lacks(s, at, b'&') {
+        return false;
+    }
+    if !lacks(s, at, b']') {
+        return false;
+    }
+    lacks_control(s, at)
 }
 
 // A place before which all bytes from `at` on are plain, found by whole blocks.
@@ -115,7 +128,7 @@ pub fn read_text(s: &[u8], at: usize) -> Content
             return Content::Clean(i);
         }
         if is_fault(s, i) {
-            return faulty(s, i);
+            return faulty(s, i, b"<");
         }
         i = plain_end(s, i + 1);
     }

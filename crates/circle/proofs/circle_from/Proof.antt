@@ -1,11 +1,10 @@
 -- `circle::circle_from` meets its contract: by cases on the pair and on the radius.
-use Rattle.circle.proofs.Texts.{circle-around}
 use borrow.Author.Needs.{needs}
 use Rattle.circle.proofs.circle_from.Statement.{statement}
 use Rattle.circle.proofs.circle_from.Tie as tie
 
 returns-3 : tie.Need-returns-3
-returns-3 c = circle-around _ _ _ _ (c .before .before .before .before .p .given .1) (c .before .r .given .1)
+returns-3 c = rw (c .before .before .before .before .p .given .1, c .before .r .given .1)
 
 pub circle-from-spec : {M : Type 1} → statement M
 circle-from-spec =

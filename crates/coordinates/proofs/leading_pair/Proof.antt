@@ -5,7 +5,7 @@ use native.Mathlib.Omega.{arith}
 use borrow.Author.Tests.{not-true, not-false}
 use borrow.Author.Needs.{needs}
 use Rattle.coordinates.proofs.Leading.{leads-in}
-use Rattle.coordinates.proofs.Readers.{no-leading-latitude, no-leading-comma, no-leading-longitude, both-lead}
+use Rattle.coordinates.proofs.Readers.{no-latitude, no-comma, no-longitude, both}
 use Rattle.coordinates.proofs.leading_pair.Statement.{statement}
 use Rattle.coordinates.proofs.leading_pair.Tie as tie
 
@@ -13,11 +13,11 @@ enum-told : tie.Need-enum-told
 enum-told c = search needs
 
 returns : tie.Need-returns
-returns c = no-leading-latitude _ _ (sym (c .before .before .coordinate-at .ensures) ∙ c .enum-told .given .1)
+returns c = no-latitude _ _ (sym (c .before .before .coordinate-at .ensures) ∙ c .enum-told .given .1)
 
 returns-2 : tie.Need-returns-2
 returns-2 c =
-    no-leading-comma _ _ _ _ (sym (c .before .before .before .before .before .coordinate-at .ensures) ∙ c .before .before .before .y .given .1)
+    no-comma _ _ _ _ (sym (c .before .before .before .before .before .coordinate-at .ensures) ∙ c .before .before .before .y .given .1)
     (sym (c .before .leads .ensures) ∙ not-true _ (c .if1 .taken))
 
 add-coordinate-at : tie.Need-add-coordinate-at
@@ -30,13 +30,13 @@ add-coordinate-at c =
 returns-3 : tie.Need-returns-3
 returns-3 c =
     let e = c .before .before .before .before in
-    both-lead _ _ _ _ (sym (e .before .before .before .before .before .coordinate-at .ensures) ∙ e .before .before .before .y .given .1) (sym (e .before .leads .ensures) ∙ not-false _ (e .if1 .left))
+    both _ _ _ _ (sym (e .before .before .before .before .before .coordinate-at .ensures) ∙ e .before .before .before .y .given .1) (sym (e .before .leads .ensures) ∙ not-false _ (e .if1 .left))
     _ _ (sym (c .before .before .before .coordinate-at2 .ensures) ∙ c .before .x .given .1) (e .before .before .known-told .given .0 .1) (c .known-told2 .given .0 .1)
 
 returns-4 : tie.Need-returns-4
 returns-4 c =
     let e = c .before .before .before in
-    no-leading-longitude _ _ _ _ (sym (e .before .before .before .before .before .coordinate-at .ensures) ∙ e .before .before .before .y .given .1) (sym (e .before .leads .ensures) ∙ not-false _ (e .if1 .left))
+    no-longitude _ _ _ _ (sym (e .before .before .before .before .before .coordinate-at .ensures) ∙ e .before .before .before .y .given .1) (sym (e .before .leads .ensures) ∙ not-false _ (e .if1 .left))
     (sym (c .before .before .coordinate-at2 .ensures) ∙ c .enum-told2 .given .1)
 
 pub leading-pair-spec : {M : Type 1} → statement M

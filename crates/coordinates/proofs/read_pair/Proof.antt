@@ -1,46 +1,18 @@
--- `read_pair` meets its contract: each way through it is one law of `pairOf`.
+-- The pair that leads the text is the whole of it or not.
 use mathlib.Core.Path.{sym, _∙_}
-use Prim.Native.Char.{code}
-use native.Mathlib.Omega.{arith}
-use borrow.Author.Tests.{not-true, not-false}
 use borrow.Author.Needs.{needs}
-use Rattle.coordinates.proofs.Leading.{leads-in}
-use Rattle.coordinates.proofs.Readers.{no-latitude, no-comma, no-longitude, both}
+use Rattle.coordinates.proofs.Readers.{no-pair, pair-part, pair-whole}
 use Rattle.coordinates.proofs.read_pair.Statement.{statement}
 use Rattle.coordinates.proofs.read_pair.Tie as tie
-
-enum-told : tie.Need-enum-told
-enum-told c = search needs
-
-returns : tie.Need-returns
-returns c = no-latitude _ (sym (c .before .before .coordinate-at .ensures) ∙ c .enum-told .given .1)
-
-returns-2 : tie.Need-returns-2
-returns-2 c =
-    no-comma _ _ _ (sym (c .before .before .before .before .before .coordinate-at .ensures) ∙ c .before .before .before .y .given .1)
-    (sym (c .before .leads .ensures) ∙ not-true _ (c .if1 .taken))
-
-add-whole-text : tie.Need-add-whole-text
-add-whole-text c =
-    omega (
-      arith,
-      leads-in (c .before .before .before .before .before .before .before .args .text .now) (c .before .before .before .y .given .0 .1 .0) (code ",") (sym (c .before .leads .ensures) ∙ not-false _ (c .if1 .left)),
-    )
-
-returns-3 : tie.Need-returns-3
-returns-3 c =
-    let e = c .before .before .before .before in
-    both _ _ _ (sym (e .before .before .before .before .before .coordinate-at .ensures) ∙ e .before .before .before .y .given .1) (sym (e .before .leads .ensures) ∙ not-false _ (e .if1 .left))
-    _ (sym (c .before .before .before .whole-text .ensures) ∙ c .before .x .given .1) (e .before .before .known-told .given .0 .1) (c .known-told2 .given .0 .1)
-
-returns-4 : tie.Need-returns-4
-returns-4 c =
-    let e = c .before .before .before in
-    no-longitude _ _ _ (sym (e .before .before .before .before .before .coordinate-at .ensures) ∙ e .before .before .before .y .given .1) (sym (e .before .leads .ensures) ∙ not-false _ (e .if1 .left))
-    (sym (c .before .before .whole-text .ensures) ∙ c .enum-told2 .given .1)
 
 pub read-pair-spec : {M : Type 1} → statement M
 read-pair-spec =
     tie.close
-    (tie.spec (λ c κs. search needs) (λ c. search needs) enum-told returns (λ c κs. search needs) returns-2 add-whole-text (λ c κs. search needs)
-    (λ c. search needs) (λ c. search needs) returns-3 returns-4)
+    (tie.spec (λ c κs. search needs) (λ c. search needs) (λ c. search needs)
+    (λ c. no-pair (c .before .before .before .before .args .text .now) (sym (c .before .before .leading-pair .ensures) ∙ c .enum-told .given .1))
+    (λ c.
+    pair-part (c .before .before .before .before .before .before .args .text .now) _ _
+    (sym (c .before .before .before .before .leading-pair .ensures) ∙ c .before .before .pair .given .1) (c .if1 .taken))
+    (λ c.
+    pair-whole (c .before .before .before .before .before .before .args .text .now) _ _
+    (sym (c .before .before .before .before .leading-pair .ensures) ∙ c .before .before .pair .given .1) (c .if1 .left)))

@@ -10,16 +10,16 @@ use Rattle.events.proofs.scan.Statement.{statement}
 use Rattle.events.proofs.scan.Tie as tie
 
 abbrev Inv-loop : tie.InvT-loop
-Inv-loop key event table places₀ i₀ places i = (i ≤ 64) × (places ≡ scanned key event (take i (table .entries)))
+Inv-loop key event table places₀ i₀ found i = (i ≤ 64) × (found ≡ scanned key event (take i (table .entries)))
 
 abbrev μ-loop : tie.MeasureT-loop
-μ-loop key event table places₀ i₀ places i = 64 - i
+μ-loop key event table places₀ i₀ found i = 64 - i
 
 long : (s : tie.Start Inv-loop μ-loop) → length (s .args .t1 .entries) ≡ 64
 long s = simp length-map at (s .good .0 .1 .1 .0 .1 .0 .1)
 
 loop-holds : tie.Need-loop-holds Inv-loop μ-loop
-loop-holds c = (search needs, c .«no-places» .ensures ∙ scanned-none (c .before .args .key) (c .before .args .event) (c .before .args .t1 .entries))
+loop-holds c = (search needs, c .«no-candidates» .ensures ∙ scanned-none (c .before .args .key) (c .before .args .event) (c .before .args .t1 .entries))
 
 loop-again : tie.Need-loop-again Inv-loop μ-loop
 loop-again c = let s = c .before .before .before .before .before in

@@ -1,34 +1,63 @@
--- `read_packet` meets its contract: each way through it is one law of `packetOf`, and an ALERT's is `read_alert`'s.
-use mathlib.Core.Path.{sym, _∙_}
+-- `read_packet` meets its contract: by its tests in their order, and an ALERT's is `read_alert`'s.
+use mathlib.Core.Path.{_∙_}
 use borrow.Author.Needs.{needs}
-use borrow.Author.Tests.{not-true, not-false}
-use Rattle.packet.proofs.Rules.{under-eight, not-warn, not-one, not-alert}
+use borrow.Author.Tests.{lt-ltb, le-ltb, ne-eqb, eq-eqb}
+use Rattle.packet.specs.Packet.{packetOf}
 use Rattle.packet.proofs.read_packet.Statement.{statement}
 use Rattle.packet.proofs.read_packet.Tie as tie
 
+returns : tie.Need-returns
+unfolding packetOf
+returns c = rw (lt-ltb _ 8 (c .if1 .taken))
+
 returns-2 : tie.Need-returns-2
-returns-2 c = not-warn _ (c .before .before .if1 .left) (sym (c .before .is-warn .ensures) ∙ not-true _ (c .if2 .taken))
+unfolding packetOf
+returns-2 c = rw (le-ltb _ 8 (c .before .before .if1 .left), ← c .before .is-warn .ensures, c .if2 .taken)
 
 returns-3 : tie.Need-returns-3
+unfolding packetOf
 returns-3 c =
-    not-one _ (c .before .before .before .before .if1 .left) (sym (c .before .before .before .is-warn .ensures) ∙ not-false _ (c .before .before .if2 .left))
-    (λ q. c .if3 .taken (c .before .u8-at .ensures ∙ q))
+    let s = c .before .before in
+    rw (
+      le-ltb _ 8 (s .before .before .if1 .left),
+      ← s .before .is-warn .ensures,
+      s .if2 .left,
+      ← c .before .u8-at .ensures,
+      ne-eqb _ 1 (c .if3 .taken),
+    )
 
 returns-4 : tie.Need-returns-4
+unfolding packetOf
 returns-4 c =
-    not-alert _ (c .before .before .before .before .before .before .if1 .left) (sym (c .before .before .before .before .before .is-warn .ensures) ∙ not-false _ (c .before .before .before .before .if2 .left))
-    (sym (c .before .before .before .u8-at .ensures) ∙ c .before .before .if3 .left) (sym (c .before .flag .ensures) ∙ not-true _ (c .if4 .taken))
+    let s = c .before .before .before .before in
+    rw (
+      le-ltb _ 8 (s .before .before .if1 .left),
+      ← s .before .is-warn .ensures,
+      s .if2 .left,
+      ← c .before .before .before .u8-at .ensures,
+      eq-eqb _ 1 (c .before .before .if3 .left),
+      ← c .before .flag .ensures,
+      c .if4 .taken,
+    )
 
-read-alert-requires : tie.Need-read-alert-requires
-read-alert-requires c κs = (
-  c .before .before .before .before .before .before .if1 .left,
-  sym (c .before .before .before .before .before .is-warn .ensures) ∙ not-false _ (c .before .before .before .before .if2 .left),
-  sym (c .before .before .before .u8-at .ensures) ∙ c .before .before .if3 .left,
-  sym (c .before .flag .ensures) ∙ not-false _ (c .if4 .left),
-)
+returns-5 : tie.Need-returns-5
+unfolding packetOf
+returns-5 c =
+    let t = c .before in
+    let s = t .before .before .before .before in
+    c .read-alert .ensures
+    ∙ rw (
+      le-ltb _ 8 (s .before .before .if1 .left),
+      ← s .before .is-warn .ensures,
+      s .if2 .left,
+      ← t .before .before .before .u8-at .ensures,
+      eq-eqb _ 1 (t .before .before .if3 .left),
+      ← t .before .flag .ensures,
+      t .if4 .left,
+    )
 
 pub read-packet-spec : {M : Type 1} → statement M
 read-packet-spec =
     tie.close
-    (tie.spec (λ c. under-eight _ (c .if1 .taken)) (λ c κs. search needs) returns-2 (λ c κs. search needs) returns-3 (λ c κs. search needs) returns-4
-    read-alert-requires (λ c. search needs))
+    (tie.spec returns (λ c κs. search needs) returns-2 (λ c κs. search needs) returns-3 (λ c κs. search needs) returns-4
+    (λ c κs. search needs) returns-5)

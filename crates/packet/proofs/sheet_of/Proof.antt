@@ -1,7 +1,7 @@
 -- `sheet_of` meets its contract: each fact is a field, and the lasting time fits 32 bits.
 use borrow.Author.Needs.{needs}
 use Rattle.packet.specs.Packet.{sheetOfFields}
-use Rattle.packet.proofs.Answers.{lasting-fits}
+use Rattle.packet.proofs.Acceptance.{lasting-fits}
 use Rattle.packet.proofs.sheet_of.Statement.{statement}
 use Rattle.packet.proofs.sheet_of.Tie as tie
 

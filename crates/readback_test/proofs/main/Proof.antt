@@ -6,11 +6,9 @@ use borrow.Author.Needs.{needs}
 use Rattle.readback_test.proofs.main.Statement.{statement}
 use Rattle.readback_test.proofs.main.Tie as tie
 
-slice-aggregate-print-reads : tie.Need-slice-aggregate-print-reads
-slice-aggregate-print-reads c = sym (length-take-le _ (c .before .before .before .before .before .before .before .write-list .last .0) (omega arith))
-
 pub main-spec : {M : Type 1} → statement M
 main-spec =
     tie.close
     (tie.spec (λ c. search needs) (λ c κs. search needs) (λ c. search needs) (λ c κs. search needs) (λ c. search needs) (λ c κs. search needs)
-    (λ c. search needs) slice-aggregate-print-reads (λ c κs. search needs) (λ c κs. search needs) (λ c. search needs))
+    (λ c. search needs) (λ c. sym (length-take-le _ (c .before .before .before .before .before .before .before .write-list .last .0) (omega arith)))
+    (λ c κs. search needs) (λ c κs. search needs) (λ c. search needs))

@@ -12,13 +12,13 @@ use Rattle.reader.proofs.read_back.Tie as tie
 use Rattle.reader.proofs.read_back.Statement.{statement}
 
 abbrev Inv-loop : tie.InvT-loop
-Inv-loop text k i₀ n₀ asked₀ i n asked = (n ≤ i) × (i ≤ length text) × (asked ≤ length text) × (answerFrom text k i n asked ≡ readBack text k)
+Inv-loop text k i₀ n₀ asked₀ i n asked = (n ≤ i) × (i ≤ length text) × (answerFrom text k i n asked ≡ readBack text k)
 
 abbrev μ-loop : tie.MeasureT-loop
 μ-loop text k i₀ n₀ asked₀ i n asked = length text - i
 
 loop-holds : tie.Need-loop-holds Inv-loop μ-loop
-loop-holds c = (omega arith, omega arith, omega arith, loop-start (c .before .args .text .now) (c .before .args .k) _)
+loop-holds c = (omega arith, omega arith, loop-start (c .before .args .text .now) (c .before .args .k) _)
 
 -- a read-back was met: it has a byte, and lies within the text
 room :
@@ -36,9 +36,8 @@ loop-again c =
     let r = room (c .before) in (
       omega arith,
       r .1,
-      l .loop .inv .1,
       turn-asked (a .text .now) (l .loop .i) _ (c .before .before .before .before .line-at .ensures) _ _ (c .before .before .size .given .1) (a .k) (l .loop .n) (l .loop .asked) (c .if1 .taken)
-          ∙ l .loop .inv .3,
+          ∙ l .loop .inv .2,
     )
 
 loop-again-2 : tie.Need-loop-again-2 Inv-loop μ-loop
@@ -48,30 +47,29 @@ loop-again-2 c =
     let r = room (c .before) in (
       omega arith,
       r .1,
-      l .loop .inv .2,
       turn-other (a .text .now) (l .loop .i) _ (c .before .before .before .before .line-at .ensures) _ _ (c .before .before .size .given .1) (a .k) (l .loop .n) (l .loop .asked) (c .if1 .left)
-          ∙ l .loop .inv .3,
+          ∙ l .loop .inv .2,
     )
 
 enum-told : tie.Need-enum-told Inv-loop μ-loop
 enum-told c = search needs
 
 returns : tie.Need-returns Inv-loop μ-loop
-returns c = turn-stop (c .before .before .before .before .before .before .args .text .now) (c .before .before .before .before .loop .i) _ (c .before .before .line-at .ensures) _ _ _ (c .before .before .before .loop-test .taken) (c .enum-told .given .1) ∙ c .before .before .before .before .loop .inv .3
+returns c = turn-stop (c .before .before .before .before .before .before .args .text .now) (c .before .before .before .before .loop .i) _ (c .before .before .line-at .ensures) _ _ _ (c .before .before .before .loop-test .taken) (c .enum-told .given .1) ∙ c .before .before .before .before .loop .inv .2
 
 returns-2 : tie.Need-returns-2 Inv-loop μ-loop
-returns-2 c = sym (loop-count (c .before .before .before .before .args .text .now) (c .before .before .before .before .args .k) (c .before .before .loop .i) _ _ (c .before .loop-test .left) (c .if2 .taken)) ∙ c .before .before .loop .inv .3
+returns-2 c = sym (loop-count (c .before .before .before .before .args .text .now) (c .before .before .before .before .args .k) (c .before .before .loop .i) _ _ (c .before .loop-test .left) (c .if2 .taken)) ∙ c .before .before .loop .inv .2
 
 returns-3 : tie.Need-returns-3 Inv-loop μ-loop
-returns-3 c = sym (loop-none (c .before .before .before .before .before .args .text .now) (c .before .before .before .before .before .args .k) (c .before .before .before .loop .i) _ _ (c .before .before .loop-test .left) (c .if3 .taken)) ∙ c .before .before .before .loop .inv .3
+returns-3 c = sym (loop-none (c .before .before .before .before .before .args .text .now) (c .before .before .before .before .before .args .k) (c .before .before .before .loop .i) _ _ (c .before .before .loop-test .left) (c .if3 .taken)) ∙ c .before .before .before .loop .inv .2
 
 returns-4 : tie.Need-returns-4 Inv-loop μ-loop
-returns-4 c = ap (readback.Sheet (c .before .before .before .before .loop .n)) (c .found-at .ensures) ∙ sym (loop-sheet (c .before .before .before .before .before .before .args .text .now) (c .before .before .before .before .before .before .args .k) (c .before .before .before .before .loop .i) _ _ (c .before .before .before .loop-test .left) (omega arith) (c .before .if3 .left)) ∙ c .before .before .before .before .loop .inv .3
+returns-4 c = ap (readback.Sheet (c .before .before .before .before .loop .n)) (c .found-at .ensures) ∙ sym (loop-sheet (c .before .before .before .before .before .before .args .text .now) (c .before .before .before .before .before .before .args .k) (c .before .before .before .before .loop .i) _ _ (c .before .before .before .loop-test .left) (omega arith) (c .before .if3 .left)) ∙ c .before .before .before .before .loop .inv .2
 
 pub read-back-spec : {M : Type 1} → statement M
 read-back-spec =
     tie.close
-    (tie.spec Inv-loop μ-loop loop-holds (λ c κs. c .before .loop .inv .1) (λ c. search needs) (λ c. omega arith)
+    (tie.spec Inv-loop μ-loop loop-holds _ (λ c. search needs) (λ c. omega arith)
     (λ c. let r = room (c .before) in omega arith) (λ c. let r = room (c .before) in omega arith) loop-again
     (λ c. let r = room (c .before) in omega arith) (λ c. let r = room (c .before) in omega arith) loop-again-2 enum-told returns returns-2 returns-3
-    (λ c κs. c .before .before .before .loop .inv .2) returns-4)
+    _ returns-4)

@@ -5,13 +5,9 @@ use borrow.Author.Needs.{needs}
 use Rattle.receive_test.proofs.byte_at.Statement.{statement}
 use Rattle.receive_test.proofs.byte_at.Tie as tie
 
-cast-result : tie.Need-cast-result
-cast-result c = omega (arith, c .shared-slice-known .given (c .before .before .before .args .at + c .before .before .before .args .i))
-
-returns-3 : tie.Need-returns-3
-returns-3 c = omega (arith, c .shared-slice-known .given (c .before .before .before .args .at + c .before .before .before .args .i))
-
 pub byte-at-spec : {M : Type 1} → statement M
 byte-at-spec =
     tie.close
-    (tie.spec (λ c. search needs) (λ c. search needs) (λ c. search needs) (λ c. search needs) (λ c. search needs) cast-result returns-3)
+    (tie.spec (λ c. search needs) (λ c. search needs) (λ c. search needs) (λ c. search needs) (λ c. search needs)
+    (λ c. omega (arith, c .shared-slice-known .given (c .before .before .before .args .at + c .before .before .before .args .i)))
+    (λ c. omega (arith, c .shared-slice-known .given (c .before .before .before .args .at + c .before .before .before .args .i))))

@@ -1,4 +1,4 @@
--- `receive_test::number_at` is safe and ends: the value is cut to 56 bits before a byte is put behind it.
+-- `receive_test::number_at` is safe and ends: the value is cut to 56 bits before a byte is put after it.
 use native.Mathlib.Omega.{arith}
 use borrow.Author.Needs.{needs}
 use Prim.Native.Nat.{_≤_, _-_}

@@ -1,4 +1,4 @@
--- `receive_test::run` is safe and ends: each turn starts behind the last record.
+-- `receive_test::run` is safe and ends: each turn starts after the last record.
 use native.Mathlib.Omega.{arith}
 use borrow.Author.Needs.{needs}
 use Prim.Native.Nat.{_≤_, _-_}

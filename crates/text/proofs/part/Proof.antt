@@ -1,4 +1,4 @@
--- A part is what leads the rest behind its start.
+-- A part is what leads the rest after its start.
 use mathlib.Core.Path.{ap, _∙_}
 use Prim.Native.Nat.{_-_}
 use lib.ListN.{take}

@@ -1,4 +1,4 @@
--- Behind the end stands nothing.
+-- After the end stands nothing.
 use borrow.Author.Needs.{needs}
 use Rattle.text.proofs.Parts.{drop-part, drop-past}
 use Rattle.text.proofs.skip.Tie as tie

@@ -1,4 +1,4 @@
--- Before each turn what is left of p leads what is left of t exactly if p leads t.
+-- Before each turn what is left of p leads what is left of t exactly if p leads t; a longer text leads none.
 use mathlib.Core.Path.{_≡_, refl, sym, _∙_}
 use Prim.Native.Nat.{_-_}
 use native.Mathlib.Omega.{arith}
@@ -14,20 +14,16 @@ Inv-loop t p i₀ i = startsWith (drop i p) (drop i t) ≡ startsWith p t
 abbrev μ-loop : tie.MeasureT-loop
 μ-loop t p i₀ i = length p - i
 
-returns : tie.Need-returns Inv-loop μ-loop
-returns c = sym (starts-short _ _ _ (c .before .loop-test .taken) (c .if1 .taken)) ∙ c .before .before .loop .inv
-
 returns-2 : tie.Need-returns-2 Inv-loop μ-loop
-returns-2 c = sym (starts-differ _ _ _ (c .before .before .before .before .loop-test .taken) (c .before .before .before .if1 .left) (c .if2 .taken)) ∙ c .before .before .before .before .before .loop .inv
+returns-2 c =
+    sym (starts-differ _ _ _ (c .before .before .before .loop-test .taken) (omega arith) (c .if2 .taken)) ∙ c .before .before .before .before .loop .inv
 
 loop-again : tie.Need-loop-again Inv-loop μ-loop
-loop-again c = sym (starts-on _ _ _ (c .before .before .before .before .loop-test .taken) (c .before .before .before .if1 .left) (c .if2 .left)) ∙ c .before .before .before .before .before .loop .inv
-
-returns-3 : tie.Need-returns-3 Inv-loop μ-loop
-returns-3 c = sym (starts-end _ _ _ (c .loop-test .left)) ∙ c .before .loop .inv
+loop-again c =
+    sym (starts-on _ _ _ (c .before .before .before .loop-test .taken) (omega arith) (c .if2 .left)) ∙ c .before .before .before .before .loop .inv
 
 pub starts-with-spec : {M : Type 1} → statement M
 starts-with-spec =
     tie.close
-    (tie.spec Inv-loop μ-loop (λ c. refl) returns (λ c. c .before .if1 .left) (λ c. omega arith) returns-2 (λ c. omega arith) (λ c. omega arith)
-    loop-again returns-3)
+    (tie.spec Inv-loop μ-loop (λ c. sym (starts-short _ _ (c .if1 .taken))) (λ c. refl) (λ c. omega arith) (λ c. omega arith) returns-2
+    (λ c. omega arith) (λ c. omega arith) loop-again (λ c. sym (starts-end _ _ _ (c .loop-test .left)) ∙ c .before .loop .inv))

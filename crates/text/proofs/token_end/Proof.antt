@@ -1,11 +1,13 @@
--- `text::token_end` meets its contract: what is left of the token from i on, and i, is what it was from the start on.
+-- What is left of the token from i on, and i, is what it was from the start on.
 use native.Mathlib.Omega.{arith}
 use borrow.Author.Needs.{needs}
 use Prim.Native.Nat.{_+_, _-_}
-use mathlib.Core.Path.{_≡_, refl, sym, _∙_}
+use mathlib.Core.Path.{_≡_, refl, ap}
+use mathlib.Core.Bool.{not}
 use lib.ListN.{length, drop}
+use Rattle.text.specs.Bytes.{isSpace}
 use Rattle.text.specs.Tokens.{tokenLength}
-use Rattle.text.proofs.Laws.{token-on, token-stop, token-none}
+use Rattle.text.proofs.Runs.{run-on, run-stop, run-end}
 use Rattle.text.proofs.token_end.Statement.{statement}
 use Rattle.text.proofs.token_end.Tie as tie
 
@@ -15,17 +17,11 @@ Inv-loop s at i₀ i = i + tokenLength (drop i s) ≡ at + tokenLength (drop at 
 abbrev μ-loop : tie.MeasureT-loop
 μ-loop s at i₀ i = length s - i
 
-returns : tie.Need-returns Inv-loop μ-loop
-returns c = sym (token-stop _ _ (c .before .before .before .loop-test .taken) (sym (c .before .is-space .ensures) ∙ c .if1 .taken)) ∙ c .before .before .before .before .loop .inv
-
-loop-again : tie.Need-loop-again Inv-loop μ-loop
-loop-again c = sym (token-on _ _ (c .before .before .before .loop-test .taken) (sym (c .before .is-space .ensures) ∙ c .if1 .left)) ∙ c .before .before .before .before .loop .inv
-
-returns-2 : tie.Need-returns-2 Inv-loop μ-loop
-returns-2 c = sym (token-none _ _ (c .loop-test .left)) ∙ c .before .loop .inv
-
 pub token-end-spec : {M : Type 1} → statement M
 token-end-spec =
     tie.close
-    (tie.spec Inv-loop μ-loop (λ c. refl) (λ c. search needs) (λ c κs. search needs) returns (λ c. omega arith) (λ c. omega arith) loop-again
-    returns-2)
+    (tie.spec Inv-loop μ-loop (λ c. refl) (λ c. search needs) (λ c κs. search needs)
+    (λ c. run-stop (λ b. not (isSpace b)) _ _ _ (c .before .before .before .before .loop .inv) (c .before .before .before .loop-test .taken) (ap not (c .before .is-space .ensures)) (ap not (c .if1 .taken)))
+    (λ c. omega arith) (λ c. omega arith)
+    (λ c. run-on (λ b. not (isSpace b)) _ _ _ (c .before .before .before .before .loop .inv) (c .before .before .before .loop-test .taken) (ap not (c .before .is-space .ensures)) (ap not (c .if1 .left)))
+    (λ c. run-end (λ b. not (isSpace b)) _ _ _ (c .before .loop .inv) (c .loop-test .left)))

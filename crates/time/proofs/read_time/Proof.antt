@@ -1,4 +1,4 @@
--- Each branch gives what the definition gives: too few bytes, the form's bytes with white space behind, or something else behind.
+-- Each branch gives what the definition gives: too few bytes, the form's bytes with white space after, or something else after.
 use native.Mathlib.Omega.{arith}
 use borrow.Author.Needs.{needs}
 use Rattle.time.proofs.Answer.{start-le, time-short, time-whole, time-stray}
@@ -17,5 +17,5 @@ returns-3 c = time-stray _ _ (c .before .before .before .skip-space .ensures) _ 
 pub read-time-spec : {M : Type 1} → statement M
 read-time-spec =
     tie.close
-    (tie.spec (λ c κs. search needs) (λ c. start-le _ _ (c .skip-space .ensures)) returns (λ c. search needs) (λ c κs. search needs)
+    (tie.spec (λ c κs. search needs) (λ c. start-le (c .before .before .args .text .now) _ (c .skip-space .ensures)) returns (λ c. search needs) (λ c κs. search needs)
     (λ c. search needs) (λ c. search needs) (λ c. search needs) (λ c κs. search needs) returns-2 returns-3)

@@ -1,23 +1,47 @@
 -- Each branch gives what the definition gives under the tests that lead there.
 use mathlib.Core.Path.{sym, _∙_}
-use borrow.Author.Tests.{not-true, not-false}
 use borrow.Author.Needs.{needs}
-use Rattle.time.proofs.Answer.{stamp-formless, stamp-yes, stamp-no}
+use borrow.Author.Tests.{not-true, not-false}
 use Rattle.integers.specs.Reads.{reads-back}
+use Rattle.time.specs.Time.{stampTime}
+use Rattle.time.proofs.Bounds.{stamped}
 use Rattle.time.proofs.stamp_time.Statement.{statement}
 use Rattle.time.proofs.stamp_time.Tie as tie
 
 returns : tie.Need-returns
-returns c = stamp-formless _ (sym (c .before .has-time-form .ensures) ∙ not-true _ (c .if1 .taken))
+unfolding stampTime
+returns c = rw (← c .before .has-time-form .ensures, not-true (c .before .has-time-form .result) (c .if1 .taken))
+
+instant-of-requires : tie.Need-instant-of-requires
+instant-of-requires c κs = stamped _ (sym (c .before .is-stamp .ensures) ∙ c .if2 .taken)
 
 returns-2 : tie.Need-returns-2
-returns-2 c = stamp-yes _ _ _ (sym (c .before .before .before .before .before .has-time-form .ensures) ∙ not-false _ (c .before .before .before .before .if1 .left)) (c .before .before .before .stamp-of .ensures) (sym (c .before .before .is-stamp .ensures) ∙ c .before .if2 .taken) (reads-back (c .instant-of .result) (c .instant-of .ok) .is ∙ c .instant-of .ensures)
+unfolding stampTime
+returns-2 c =
+    let s = c .before .before .before .before in
+    rw (
+      reads-back (c .instant-of .result) (c .instant-of .ok) .is,
+      c .instant-of .ensures,
+      ← s .before .has-time-form .ensures,
+      not-false (s .before .has-time-form .result) (s .if1 .left),
+      ← c .before .before .before .stamp-of .ensures,
+      ← c .before .before .is-stamp .ensures,
+      c .before .if2 .taken,
+    )
 
 returns-3 : tie.Need-returns-3
-returns-3 c = stamp-no _ _ (sym (c .before .before .before .before .has-time-form .ensures) ∙ not-false _ (c .before .before .before .if1 .left)) (c .before .before .stamp-of .ensures) (sym (c .before .is-stamp .ensures) ∙ c .if2 .left)
+unfolding stampTime
+returns-3 c =
+    let s = c .before .before .before in
+    rw (
+      ← s .before .has-time-form .ensures,
+      not-false (s .before .has-time-form .result) (s .if1 .left),
+      ← c .before .before .stamp-of .ensures,
+      ← c .before .is-stamp .ensures,
+      c .if2 .left,
+    )
 
 pub stamp-time-spec : {M : Type 1} → statement M
 stamp-time-spec =
     tie.close
-    (tie.spec (λ c κs. search needs) returns (λ c κs. search needs) (λ c κs. search needs)
-    (λ c κs. sym (c .before .is-stamp .ensures) ∙ c .if2 .taken) returns-2 returns-3)
+    (tie.spec (λ c κs. search needs) returns (λ c κs. search needs) (λ c κs. search needs) instant-of-requires returns-2 returns-3)

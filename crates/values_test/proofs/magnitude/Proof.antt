@@ -4,14 +4,9 @@ use borrow.Author.Needs.{needs}
 use Rattle.values_test.proofs.magnitude.Statement.{statement}
 use Rattle.values_test.proofs.magnitude.Tie as tie
 
-sub-result : tie.Need-sub-result
-sub-result c = negated-fits (c .before .args .n) (c .before .pre) (c .if1 .taken)
-
-cast-result : tie.Need-cast-result
-cast-result c = negated-cast (c .before .args .n) (c .before .pre) (c .if1 .taken)
-
-cast-result-2 : tie.Need-cast-result-2
-cast-result-2 c = plain-cast (c .before .args .n) (c .before .pre) (c .if1 .left)
-
 pub magnitude-spec : {M : Type 1} → statement M
-magnitude-spec = tie.close (tie.spec sub-result cast-result (λ c. search needs) cast-result-2 (λ c. search needs))
+magnitude-spec =
+    tie.close
+    (tie.spec (λ c. negated-fits (c .before .args .n) (c .before .pre) (c .if1 .taken))
+    (λ c. negated-cast (c .before .args .n) (c .before .pre) (c .if1 .taken)) (λ c. search needs)
+    (λ c. plain-cast (c .before .args .n) (c .before .pre) (c .if1 .left)) (λ c. search needs))

@@ -5,11 +5,9 @@ use borrow.Author.Needs.{needs}
 use Rattle.values_test.proofs.print_time.Statement.{statement}
 use Rattle.values_test.proofs.print_time.Tie as tie
 
-magnitude-requires : tie.Need-magnitude-requires
-magnitude-requires c κs = instant-small _ _ (sym (c .before .before .before .before .read-time .ensures) ∙ c .before .before .t .given .1)
-
 pub print-time-spec : {M : Type 1} → statement M
 print-time-spec =
     tie.close
-    (tie.spec (λ c κs. search needs) (λ c. search needs) (λ c κs. search needs) magnitude-requires (λ c κs. search needs) (λ c. search needs)
-    (λ c. search needs) (λ c κs. search needs) (λ c. search needs) (λ c. search needs))
+    (tie.spec (λ c κs. search needs) (λ c. search needs) (λ c κs. search needs)
+    (λ c κs. instant-small _ _ (sym (c .before .before .before .before .read-time .ensures) ∙ c .before .before .t .given .1)) (λ c κs. search needs)
+    (λ c. search needs) (λ c. search needs) (λ c κs. search needs) (λ c. search needs) (λ c. search needs))

@@ -1,4 +1,4 @@
--- `digits_at` meets its contract. The loop's invariant: `value` has as many digits as were taken, and the digits from `i` on, behind `value`, give what all digits from `at` on give. The measure is what is left of the text.
+-- `digits_at` meets its contract. The loop's invariant: `value` has as many digits as were taken, and the digits from `i` on, after `value`, give what all digits from `at` on give. The measure is what is left of the text.
 use mathlib.Core.Path.{_≡_, sym, _∙_}
 use Prim.Native.Nat.{_-_, _^_, _≤_, _<_}
 use native.Mathlib.Nat.{sub-self, pos-of-ne-zero}

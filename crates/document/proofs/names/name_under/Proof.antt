@@ -1,4 +1,4 @@
--- The prefix and ":" lead the name if the prefix does and ":" stands behind it.
+-- The prefix and ":" lead the name if the prefix does and ":" stands after it.
 use borrow.Author.Needs.{needs}
 use Rattle.document.proofs.Prefixes.{under-none, under-prefix, under-other}
 use Rattle.document.proofs.names.name_under.Statement.{statement}

@@ -1,22 +1,29 @@
 -- In a leaf, with something missing in the container, or with nothing missing.
+use borrow.Author.Tests.{eq-eqb, ne-eqb}
 use borrow.Author.Needs.{needs}
-use Rattle.document.proofs.TagSteps.{close-leaf, close-missing, close-container}
+use Rattle.document.specs.Tags.{closeStep}
 use Rattle.document.proofs.tags.close_step.Statement.{statement}
 use Rattle.document.proofs.tags.close_step.Tie as tie
 
 returns : tie.Need-returns
-returns c = let a = c .before .before .before .args in close-leaf (a .m) (a .next) _ (c .before .if1 .taken) (c .moved .ensures)
+unfolding closeStep
+returns c = rw (ne-eqb _ _ (c .before .if1 .taken), c .moved .ensures)
 
 returns-2 : tie.Need-returns-2
-returns-2 c =
-    let a = c .before .before .before .before .args in
-    close-missing (a .m) (a .next) _ (c .before .before .if1 .left) (c .before .next .ensures) (c .if2 .taken)
+unfolding closeStep
+returns-2 c = rw (eq-eqb _ _ (c .before .before .if1 .left), ← c .before .next .ensures, eq-eqb _ _ (c .if2 .taken))
 
 returns-3 : tie.Need-returns-3
+unfolding closeStep
 returns-3 c =
-    let a = c .before .before .before .before .before .before .args in
-    close-container (a .m) (a .next) _ (c .before .before .before .before .if1 .left) (c .before .before .before .next .ensures) _ _
-    (c .before .before .if2 .left) (c .before .moved2 .ensures) (c .container-of .ensures)
+    rw (
+      eq-eqb _ _ (c .before .before .before .before .if1 .left),
+      ← c .before .before .before .next .ensures,
+      ne-eqb _ _
+          (c .before .before .if2 .left),
+      c .before .moved2 .ensures,
+      c .container-of .ensures,
+    )
 
 pub close-step-spec : {M : Type 1} → statement M
 close-step-spec =

@@ -1,22 +1,26 @@
--- `accepted` meets its contract: each way through it is one law of `acceptedOf`.
+-- `accepted` meets its contract: each way through it is the definition's, by the tests passed.
+use mathlib.Core.Path.{ap, _∙_}
 use borrow.Author.Needs.{needs}
-use borrow.Author.Tests.{not-true, not-false}
-use Rattle.packet.proofs.Rules.{out-of-range, not-lasting, is-accepted}
+use Rattle.coordinates.specs.Place.{inRange}
 use Rattle.packet.proofs.checks.accepted.Statement.{statement}
 use Rattle.packet.proofs.checks.accepted.Tie as tie
 
 returns : tie.Need-returns
-returns c = out-of-range (c .before .before .before .args .f) _ (c .before .before .epicentre .ensures) _ (c .before .in-range .ensures) (not-true _ (c .if1 .taken))
+returns c =
+    let e = c .before .in-range .ensures ∙ ap inRange (c .before .before .epicentre .ensures) in
+    rw (← e, c .if1 .taken)
 
 returns-2 : tie.Need-returns-2
 returns-2 c =
-    not-lasting (c .before .before .before .before .before .before .args .f) _ (c .before .before .before .before .before .epicentre .ensures) _ (c .before .before .before .before .in-range .ensures) (not-false _ (c .before .before .before .if1 .left))
-    _ (c .before .before .lasting .ensures) _ (c .before .is-lasting .ensures) (not-true _ (c .if2 .taken))
+    let s = c .before .before .before in
+    let e = s .before .in-range .ensures ∙ ap inRange (s .before .before .epicentre .ensures) in
+    rw (← e, s .if1 .left, ← c .before .before .lasting .ensures, ← c .before .is-lasting .ensures, c .if2 .taken)
 
 returns-3 : tie.Need-returns-3
 returns-3 c =
-    is-accepted (c .before .before .before .before .before .before .args .f) _ (c .before .before .before .before .before .epicentre .ensures) _ (c .before .before .before .before .in-range .ensures) (not-false _ (c .before .before .before .if1 .left))
-    _ (c .before .before .lasting .ensures) _ (c .before .is-lasting .ensures) (not-false _ (c .if2 .left))
+    let s = c .before .before .before in
+    let e = s .before .in-range .ensures ∙ ap inRange (s .before .before .epicentre .ensures) in
+    rw (← e, s .if1 .left, ← c .before .before .lasting .ensures, ← c .before .is-lasting .ensures, c .if2 .left)
 
 pub accepted-spec : {M : Type 1} → statement M
 accepted-spec =

@@ -1,20 +1,36 @@
 -- Each time is that of its text, and times that texts say are near.
-use mathlib.Core.Path.{ap, _∙_}
 use borrow.Author.Needs.{needs}
-use Rattle.time.specs.Time.{timeOf}
-use Rattle.parts.proofs.Drawing.{lasts-near, lasts-drawn}
+use Rattle.sheet.specs.Reading.{spanIn}
+use Rattle.schema.specs.Classes as class
+use Rattle.parts.specs.Sheets.{lastsOf}
+use Rattle.parts.specs.Gathering.{alertSpan, partSpan}
+use Rattle.parts.proofs.Durations.{near-time, near-from}
 use Rattle.parts.proofs.sheets.lasts_of.Statement.{statement}
 use Rattle.parts.proofs.sheets.lasts_of.Tie as tie
 
 lasts-from-requires : tie.Need-lasts-from-requires
-lasts-from-requires c κs = lasts-near (c .before .before .before .before .before .before .before .before .before .before .before .args .s .now) (c .before .before .before .before .before .before .before .before .before .before .before .args .t2) _ _ _ _ (c .before .before .before .before .before .before .before .read-time .ensures ∙ ap timeOf (c .before .before .before .before .before .before .before .before .span-in .ensures)) (c .before .before .before .before .read-time2 .ensures ∙ ap timeOf (c .before .before .before .before .before .span-in2 .ensures)) (c .before .read-time3 .ensures ∙ ap timeOf (c .before .before .span-in3 .ensures)) (c .start-of .ensures)
+lasts-from-requires c κs =
+    let a = c .before .before .before .before .before .before .before .before .args in (
+      rw (c .start-of .ensures, c .before .before .before .before .before .time-in .ensures, c .before .before .before .time-in2 .ensures)
+          (near-from (spanIn (a .s .now) (partSpan (a .t2) class.effective)) (spanIn (a .s .now) (alertSpan (a .t2) class.sent))),
+      rw (c .before .time-in3 .ensures) (near-time (spanIn (a .s .now) (partSpan (a .t2) class.expires))),
+    )
 
 returns : tie.Need-returns
-returns c = lasts-drawn (c .before .before .before .before .before .before .before .before .before .before .before .before .args .s .now) (c .before .before .before .before .before .before .before .before .before .before .before .before .args .t2) _ _ _ _ (c .before .before .before .before .before .before .before .before .read-time .ensures ∙ ap timeOf (c .before .before .before .before .before .before .before .before .before .span-in .ensures)) (c .before .before .before .before .before .read-time2 .ensures ∙ ap timeOf (c .before .before .before .before .before .before .span-in2 .ensures)) (c .before .before .read-time3 .ensures ∙ ap timeOf (c .before .before .before .span-in3 .ensures)) (c .before .start-of .ensures) _ (c .lasts-from .ensures)
+unfolding lastsOf
+returns c =
+    rw (
+      c .lasts-from .ensures,
+      c .before .start-of .ensures,
+      c .before .before .before .before .before .before .time-in .ensures,
+      c .before .before
+          .before .before .time-in2 .ensures,
+      c .before .before .time-in3 .ensures,
+    )
 
 pub lasts-of-spec : {M : Type 1} → statement M
 lasts-of-spec =
     tie.close
-    (tie.spec (λ c. search needs) (λ c. search needs) (λ c. search needs) (λ c κs. search needs) (λ c κs. search needs) (λ c. search needs)
-    (λ c. search needs) (λ c. search needs) (λ c κs. search needs) (λ c κs. search needs) (λ c. search needs) (λ c. search needs) (λ c. search needs)
-    (λ c κs. search needs) (λ c κs. search needs) (λ c κs. search needs) lasts-from-requires returns)
+    (tie.spec (λ c. search needs) (λ c. search needs) (λ c. search needs) (λ c κs. search needs) (λ c. search needs) (λ c. search needs)
+    (λ c. search needs) (λ c κs. search needs) (λ c. search needs) (λ c. search needs) (λ c. search needs) (λ c κs. search needs)
+    (λ c κs. search needs) lasts-from-requires returns)

@@ -1,20 +1,10 @@
 -- Each case writes what the definition says there.
 use mathlib.Core.Path.{refl}
 use borrow.Author.Needs.{needs}
+use Rattle.buffer.proofs.Chain.{both}
 use Rattle.sheet.specs.Sentence.{lastingText}
 use Rattle.readback.proofs.cap.put_lasting.Statement.{statement}
 use Rattle.readback.proofs.cap.put_lasting.Tie as tie
-
-enum-told : tie.Need-enum-told
-enum-told c = search needs
-
-put-requires : tie.Need-put-requires
-unfolding lastingText
-put-requires c κs = rw (c .before .before .enum-told .given .1) at (c .before .before .before .before .before .pre)
-
-put-duration-requires : tie.Need-put-duration-requires
-unfolding lastingText
-put-duration-requires c κs = rw (c .before .before .lasting .given .1) at (c .before .before .before .before .before .pre)
 
 returns : tie.Need-returns
 unfolding lastingText
@@ -22,9 +12,9 @@ returns c = rw (c .before .before .before .before .before .enum-told .given .1) 
 
 returns-2 : tie.Need-returns-2
 unfolding lastingText
-returns-2 c = rw (c .before .before .before .before .before .lasting .given .1) (c .before .before .put-duration .ensures)
+returns-2 c = rw (c .before .before .before .before .before .before .lasting .given .1) (both (c .before .before .duration-field .ensures))
 
 pub put-lasting-spec : {M : Type 1} → statement M
 put-lasting-spec =
     tie.close
-    (tie.spec enum-told (λ c. refl) put-requires (λ c. search needs) put-duration-requires (λ c. search needs) returns (λ c. search needs) returns-2)
+    (tie.spec (λ c. search needs) (λ c. refl) _ (λ c. search needs) (λ c. refl) _ (λ c. search needs) returns (λ c. search needs) returns-2)

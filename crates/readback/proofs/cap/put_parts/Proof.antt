@@ -5,17 +5,6 @@ use Rattle.sheet.specs.Sentence.{partsText}
 use Rattle.readback.proofs.cap.put_parts.Statement.{statement}
 use Rattle.readback.proofs.cap.put_parts.Tie as tie
 
-enum-told : tie.Need-enum-told
-enum-told c = search needs
-
-put-requires : tie.Need-put-requires
-unfolding partsText
-put-requires c κs = rw (c .before .before .enum-told .given .1) at (c .before .before .before .before .before .pre)
-
-put-part-requires : tie.Need-put-part-requires
-unfolding partsText
-put-part-requires c κs = rw (c .before .before .parts .given .1) at (c .before .before .before .before .before .pre)
-
 returns : tie.Need-returns
 unfolding partsText
 returns c = rw (c .before .before .before .before .before .enum-told .given .1) (c .before .before .put .ensures)
@@ -26,5 +15,4 @@ returns-2 c = rw (c .before .before .before .before .before .parts .given .1) (c
 
 pub put-parts-spec : {M : Type 1} → statement M
 put-parts-spec =
-    tie.close
-    (tie.spec enum-told (λ c. refl) put-requires (λ c. search needs) put-part-requires (λ c. search needs) returns (λ c. search needs) returns-2)
+    tie.close (tie.spec (λ c. search needs) (λ c. refl) _ (λ c. search needs) _ (λ c. search needs) returns (λ c. search needs) returns-2)

@@ -1,13 +1,9 @@
 -- Each branch writes what the definition says there.
 use borrow.Author.Needs.{needs}
-use Rattle.text.proofs.Buffer.{put-none}
+use Rattle.buffer.proofs.Chain.{put-none}
 use Rattle.sheet.specs.Sentence.{flag}
 use Rattle.readback.proofs.warn.put_flag.Statement.{statement}
 use Rattle.readback.proofs.warn.put_flag.Tie as tie
-
-put-requires : tie.Need-put-requires
-unfolding flag
-put-requires c κs = rw (c .before .if1 .taken) at (c .before .before .before .before .pre)
 
 returns : tie.Need-returns
 unfolding flag
@@ -15,7 +11,7 @@ returns c = rw (c .before .before .before .before .if1 .taken) (c .before .befor
 
 returns-2 : tie.Need-returns-2
 unfolding flag
-returns-2 c = rw (c .if1 .left) (put-none _)
+returns-2 c = rw (c .if1 .left) (put-none _ _)
 
 pub put-flag-spec : {M : Type 1} → statement M
-put-flag-spec = tie.close (tie.spec put-requires (λ c. search needs) returns returns-2)
+put-flag-spec = tie.close (tie.spec _ (λ c. search needs) returns returns-2)

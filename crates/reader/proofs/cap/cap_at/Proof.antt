@@ -1,35 +1,61 @@
--- Each word is read at the place where the definition reads it (CapSteps).
-use mathlib.Core.Path.{refl}
-use borrow.Author.Needs.{needs}
-use Rattle.reader.proofs.Places.{near-in, near-fits}
-use Rattle.reader.proofs.CapSteps.{at-status, at-scope, at-sender, at-name, at-parts, cap-is}
-use Rattle.reader.proofs.cap.cap_at.Tie as tie
+-- Each word is read where the definition reads it.
+use mathlib.Core.Path.{ap, ap₂, _∙_}
+use native.Mathlib.Omega.{arith}
+use lib.ListN.{drop, length-drop}
+use Rattle.codes.specs.Lists as list
+use Rattle.codes.specs.Values.{messageAt, statusAt, scopeAt}
+use Rattle.sheet.specs.declared.Found.the-variants as found
+use Rattle.sheet.specs.Reading.{afterWord, fromStatus, fromScope, fromSender, fromName, fromParts, partsOf, capOf, spanAt}
+use Rattle.sheet.proofs.ReadSentence.{rest-le, sender-rest, name-rest}
+use Rattle.reader.specs.Pieces.{wordCode}
 use Rattle.reader.proofs.cap.cap_at.Statement.{statement}
+use Rattle.reader.proofs.cap.cap_at.Tie as tie
 
-word-behind-requires : tie.Need-word-behind-requires
-word-behind-requires c κs = let s = c .before .before in near-in _ _ _ _ (at-status (s .args .t .now) (s .args .at) (s .pre) _ (c .word-at .ensures)) 64 refl
+span-at-requires : tie.Need-span-at-requires
+unfolding fromStatus fromScope fromSender
+span-at-requires c κs =
+    let s = c .before .before .before .before .before .before .before .before .before .before .before .before .before .skip .ensures in
+    let m = c .before .before .before .before .before .before .before .before .before .before .before .before .skip2 .ensures ∙ ap (drop 4) s in
+    let u = c .before .before .before .before .before .before .before .before .before .before .before .after-word .ensures ∙ ap (afterWord 2) m in
+    let p = c .before .before .before .before .before .before .before .before .before .before .after-word2 .ensures ∙ ap (afterWord 2) u in
+    let f = c .before .before .before .before .before .before .before .before .before .after-word3 .ensures ∙ ap (afterWord 7) p in
+    let b = c .before .before .before .before .before .before .before .before .before .before .before .before .before .before .before in
+    let a = b .args in
+    (rw (s, f) (rest-le _ _ (sender-rest (drop (a .at) (a .t .now)))), rw s (omega (arith, length-drop (a .at) (a .t .now), b .good .0 .1, b .fits .at)))
 
-word-behind-requires-2 : tie.Need-word-behind-requires-2
-word-behind-requires-2 c κs = let s = c .before .before .before in near-in _ _ _ _ (at-scope (s .args .t .now) (s .args .at) (s .pre) _ (c .before .word-at .ensures) _ (c .word-behind .ensures)) 64 refl
-
-word-behind-requires-3 : tie.Need-word-behind-requires-3
-word-behind-requires-3 c κs = let s = c .before .before .before .before in near-in _ _ _ _ (at-sender (s .args .t .now) (s .args .at) (s .pre) _ (c .before .before .word-at .ensures) _ (c .before .word-behind .ensures) _ (c .word-behind2 .ensures)) 64 refl
-
-word-behind-requires-4 : tie.Need-word-behind-requires-4
-word-behind-requires-4 c κs = let s = c .before .before .before .before .before in near-in _ _ _ _ (at-name (s .args .t .now) (s .args .at) (s .pre) _ (c .before .before .before .word-at .ensures) _ (c .before .before .word-behind .ensures) _ (c .before .word-behind2 .ensures) _ (c .word-behind3 .ensures)) 64 refl
-
-add-parts-at : tie.Need-add-parts-at
-add-parts-at c = let s = c .before .before .before .before .before .before .before .before .before .before .before .before .before in near-fits _ _ _ _ (at-parts (s .args .t .now) (s .args .at) (s .pre) _ (c .before .before .before .before .before .before .before .before .before .before .before .word-at .ensures) _ (c .before .before .before .before .before .before .before .before .before .before .word-behind .ensures) _ (c .before .before .before .before .before .before .before .before .before .word-behind2 .ensures) _ (c .before .before .before .before .before .before .before .before .word-behind3 .ensures) _ (c .before .before .before .before .before .before .before .word-behind4 .ensures)) refl (s .good .0 .1)
-
-parts-at-requires : tie.Need-parts-at-requires
-parts-at-requires c κs = let s = c .before .before .before .before .before .before .before .before .before .before .before .before .before in near-in _ _ _ _ (at-parts (s .args .t .now) (s .args .at) (s .pre) _ (c .before .before .before .before .before .before .before .before .before .before .before .word-at .ensures) _ (c .before .before .before .before .before .before .before .before .before .before .word-behind .ensures) _ (c .before .before .before .before .before .before .before .before .before .word-behind2 .ensures) _ (c .before .before .before .before .before .before .before .before .word-behind3 .ensures) _ (c .before .before .before .before .before .before .before .word-behind4 .ensures)) 22 refl
+span-at-requires-2 : tie.Need-span-at-requires-2
+unfolding fromStatus fromScope fromSender fromName
+span-at-requires-2 c κs =
+    let s = c .before .before .before .before .before .before .before .before .before .before .before .before .before .before .skip .ensures in
+    let m = c .before .before .before .before .before .before .before .before .before .before .before .before .before .skip2 .ensures ∙ ap (drop 4) s in
+    let u = c .before .before .before .before .before .before .before .before .before .before .before .before .after-word .ensures ∙ ap (afterWord 2) m in
+    let p = c .before .before .before .before .before .before .before .before .before .before .before .after-word2 .ensures ∙ ap (afterWord 2) u in
+    let f = c .before .before .before .before .before .before .before .before .before .before .after-word3 .ensures ∙ ap (afterWord 7) p in
+    let n = c .before .before .before .before .before .before .before .before .before .after-word4 .ensures ∙ ap (afterWord 7) f in
+    let b = c .before .before .before .before .before .before .before .before .before .before .before .before .before .before .before .before in
+    let a = b .args in
+    (rw (s, n) (rest-le _ _ (name-rest (drop (a .at) (a .t .now)))), rw s (omega (arith, length-drop (a .at) (a .t .now), b .good .0 .1, b .fits .at)))
 
 returns : tie.Need-returns
-returns c = let s = c .before .before .before .before .before .before .before .before .before .before .before .before .before .before in cap-is (s .args .t .now) (s .args .at) (s .pre) _ (c .before .before .before .before .before .before .before .before .before .before .before .before .word-at .ensures) _ (c .before .before .before .before .before .before .before .before .before .before .before .word-behind .ensures) _ (c .before .before .before .before .before .before .before .before .before .before .word-behind2 .ensures) _ (c .before .before .before .before .before .before .before .before .before .word-behind3 .ensures) _ (c .before .before .before .before .before .before .before .before .word-behind4 .ensures) _ _ _ _ (c .before .before .before .before .before .before .before .span-in .ensures) (c .before .before .before .before .before .before .message-of .ensures) (c .before .before .before .before .before .span-in2 .ensures) (c .before .before .before .before .status-of .ensures) (c .before .before .before .span-in3 .ensures) (c .before .before .scope-of .ensures) (c .parts-at .ensures)
+unfolding capOf fromStatus fromScope fromSender fromName fromParts
+returns c =
+    let s = c .before .before .before .before .before .before .before .before .before .before .before .before .before .before .before .skip .ensures in
+    let m = c .before .before .before .before .before .before .before .before .before .before .before .before .before .before .skip2 .ensures ∙ ap (drop 4) s in
+    let u = c .before .before .before .before .before .before .before .before .before .before .before .before .before .after-word .ensures ∙ ap (afterWord 2) m in
+    let p = c .before .before .before .before .before .before .before .before .before .before .before .before .after-word2 .ensures ∙ ap (afterWord 2) u in
+    let f = c .before .before .before .before .before .before .before .before .before .before .before .after-word3 .ensures ∙ ap (afterWord 7) p in
+    let n = c .before .before .before .before .before .before .before .before .before .before .after-word4 .ensures ∙ ap (afterWord 7) f in
+    let x = c .before .before .before .after-word5 .ensures ∙ ap (afterWord 0) n in
+    let a = c .before .before .before .before .before .before .before .before .before .before .before .before .before .before .before .before .before .args in
+    λ i. found.Cap
+    (record {
+      message = (c .before .before .before .before .before .before .before .before .message-at .ensures ∙ ap messageAt (c .before .before .before .before .before .before .before .before .before .code-in .ensures ∙ ap (wordCode list.msgType) m)) i;
+      status = (c .before .before .before .before .before .before .status-at .ensures ∙ ap statusAt (c .before .before .before .before .before .before .before .code-in2 .ensures ∙ ap (wordCode list.status) u)) i;
+      scope = (c .before .before .before .before .scope-at .ensures ∙ ap scopeAt (c .before .before .before .before .before .code-in3 .ensures ∙ ap (wordCode list.scope) p)) i;
+      parts = (c .before .before .parts-of .ensures ∙ ap partsOf x) i;
+    })
+    ((c .before .span-at .ensures ∙ ap₂ (spanAt (a .at)) s f) i)
+    ((c .span-at2 .ensures ∙ ap₂ (spanAt (a .at)) s n) i)
 
 pub cap-at-spec : {M : Type 1} → statement M
-cap-at-spec =
-    tie.close
-    (tie.spec (λ c. search needs) (λ c κs. search needs) word-behind-requires word-behind-requires-2 word-behind-requires-3 word-behind-requires-4
-    (λ c κs. search needs) (λ c κs. search needs) (λ c κs. search needs) (λ c κs. search needs) (λ c κs. search needs) (λ c κs. search needs)
-    add-parts-at parts-at-requires returns)
+cap-at-spec = tie.close (tie.spec _ _ _ _ _ _ _ _ _ _ _ _ _ _ span-at-requires span-at-requires-2 returns)

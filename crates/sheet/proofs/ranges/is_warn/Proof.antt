@@ -14,7 +14,6 @@ returns c =
       event = g .0 .fits;
       number = g .1 .0 .fits;
       origin = g .1 .1 .0 .fits;
-      lasting = g .1 .1 .1 .0 .fits;
       hazard = g .1 .1 .1 .1 .0 .fits;
       kind = g .1 .1 .1 .1 .1 .0 .fits;
       urgency = g .1 .1 .1 .1 .1 .1 .0 .fits;

@@ -1,11 +1,7 @@
 -- The tests are the definition's, with the month's days from the callee.
 use borrow.Author.Needs.{needs}
-use Rattle.time.proofs.Bounds.{date-is}
 use Rattle.time.proofs.limits.is_date.Statement.{statement}
 use Rattle.time.proofs.limits.is_date.Tie as tie
 
-returns : tie.Need-returns
-returns c = date-is (c .before .args .y) (c .before .args .m) (c .before .args .d) _ (c .month-days .ensures)
-
 pub is-date-spec : {M : Type 1} → statement M
-is-date-spec = tie.close (tie.spec (λ c κs. search needs) returns)
+is-date-spec = tie.close (tie.spec (λ c κs. search needs) (λ c. rw (c .month-days .ensures)))

@@ -2,12 +2,12 @@
 use borrow.Author.Needs.{needs}
 use mathlib.Core.Path.{ap, _∙_}
 use Rattle.warnbox.specs.Answers.{checkAnswer}
-use Rattle.warnbox.proofs.Pairs.{apart}
+use Rattle.warnbox.proofs.Pairs.{number-and-value}
 use Rattle.warnbox.proofs.documents.warnbox_check_document.Statement.{statement}
 use Rattle.warnbox.proofs.documents.warnbox_check_document.Tie as tie
 
-returns : tie.Need-returns
-returns c = apart (c .check-answer .ensures ∙ ap checkAnswer (c .before .check-document .ensures))
-
 pub warnbox-check-document-spec : {M : Type 1} → statement M
-warnbox-check-document-spec = tie.close (tie.spec (λ c κs. search needs) (λ c κs. search needs) returns)
+warnbox-check-document-spec =
+    tie.close
+    (tie.spec (λ c κs. search needs) (λ c κs. search needs)
+    (λ c. number-and-value (c .check-answer .ensures ∙ ap checkAnswer (c .before .check-document .ensures))))

@@ -6,9 +6,6 @@ use Rattle.warnbox.proofs.Writing.{part-written}
 use Rattle.warnbox.proofs.documents.write_drawn.Statement.{statement}
 use Rattle.warnbox.proofs.documents.write_drawn.Tie as tie
 
-enum-told : tie.Need-enum-told
-enum-told c = search needs
-
 returns : tie.Need-returns
 returns c = part-written _ _ _ _ _ (c .write-answer .ensures) _ _ _ _ _ (c .before .before .before .before .before .before .before .before .drawn .given .1) _ _ (c .before .before .before .before .before .span-in .ensures) (c .before .before .before .before .span-in2 .ensures) (c .before .before .before .write-cap .ensures)
 
@@ -24,6 +21,6 @@ returns-4 c = (c .refused3 .ensures ∙ ap (partSentence _ _ _) (sym (c .before 
 pub write-drawn-spec : {M : Type 1} → statement M
 write-drawn-spec =
     tie.close
-    (tie.spec (λ c. search needs) (λ c κs. search needs) (λ c κs. search needs) (λ c κs. search needs) (λ c κs. search needs) enum-told
+    (tie.spec (λ c. search needs) (λ c κs. search needs) (λ c κs. search needs) (λ c κs. search needs) (λ c κs. search needs) (λ c. search needs)
     (λ c κs. search needs) (λ c. search needs) (λ c κs. search needs) (λ c. search needs) (λ c κs. search needs) (λ c. search needs) returns
     returns-2 returns-3 returns-4)

@@ -2,14 +2,14 @@
 use borrow.Author.Needs.{needs}
 use mathlib.Core.Path.{ap, _∙_}
 use Rattle.warnbox.specs.Sentences.{packetSentence, packetAfter}
-use Rattle.warnbox.proofs.Pairs.{apart}
+use Rattle.warnbox.proofs.Pairs.{number-and-value}
 use Rattle.warnbox.proofs.packets.warnbox_packet_sentence.Statement.{statement}
 use Rattle.warnbox.proofs.packets.warnbox_packet_sentence.Tie as tie
 
 returns : tie.Need-returns
 returns c =
     let q = c .before .before .before .before .packet-sheet .ensures in
-    let e = apart (c .before .before .write-drawn .ensures .0 ∙ ap (packetSentence _ _) q) in
+    let e = number-and-value (c .before .before .write-drawn .ensures .0 ∙ ap (packetSentence _ _) q) in
     (e .0, e .1, c .before .before .write-drawn .ensures .1 ∙ ap (packetAfter _ _) q)
 
 pub warnbox-packet-sentence-spec : {M : Type 1} → statement M

@@ -5,9 +5,6 @@ use Rattle.warnbox.proofs.Writing.{is-cap, cap-written, warn-written, n
 use Rattle.warnbox.proofs.sentences.write_numbers.Statement.{statement}
 use Rattle.warnbox.proofs.sentences.write_numbers.Tie as tie
 
-cap-from-requires : tie.Need-cap-from-requires
-cap-from-requires c κs = is-cap (c .before .before .before .before .args .text .now) _ _ (c .before .are-cap-in .ensures) (c .if1 .taken)
-
 returns : tie.Need-returns
 returns c = cap-written _ _ _ _ _ (c .before .before .before .before .before .before .before .before .before .before .before .are-cap-in .ensures) _ _ _ (c .write-answer .ensures) (c .before .before .before .before .before .before .before .before .before .before .if1 .taken) _ (c .before .before .before .before .before .before .before .before .before .cap-from .ensures) _ _ (c .before .before .before .before .before .before .before .before .sender-from .ensures) (c .before .before .before .before .before .before .name-from .ensures) _ _ (c .before .before .before .before .before .before .before .span-in .ensures) (c .before .before .before .before .before .span-in2 .ensures) (c .before .before .before .write-cap .ensures)
 
@@ -20,7 +17,8 @@ returns-3 c = no-sheet _ _ _ _ _ (c .before .before .before .before .are-cap-in 
 pub write-numbers-spec : {M : Type 1} → statement M
 write-numbers-spec =
     tie.close
-    (tie.spec (λ c κs. search needs) cap-from-requires (λ c κs. search needs) (λ c κs. search needs) (λ c κs. search needs) (λ c κs. search needs)
-    (λ c κs. search needs) (λ c κs. search needs) (λ c. search needs) returns (λ c κs. search needs)
-    (λ c κs. sym (c .before .are-warn .ensures) ∙ c .if2 .taken) (λ c κs. search needs) (λ c κs. search needs) (λ c. search needs) returns-2
-    (λ c κs. search needs) returns-3)
+    (tie.spec (λ c κs. search needs)
+    (λ c κs. is-cap (c .before .before .before .before .args .text .now) _ _ (c .before .are-cap-in .ensures) (c .if1 .taken)) (λ c κs. search needs)
+    (λ c κs. search needs) (λ c κs. search needs) (λ c κs. search needs) (λ c κs. search needs) (λ c κs. search needs) (λ c. search needs) returns
+    (λ c κs. search needs) (λ c κs. sym (c .before .are-warn .ensures) ∙ c .if2 .taken) (λ c κs. search needs) (λ c κs. search needs)
+    (λ c. search needs) returns-2 (λ c κs. search needs) returns-3)

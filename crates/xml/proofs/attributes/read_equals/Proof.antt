@@ -1,24 +1,19 @@
--- Behind white space stands "=" or not.
+-- After white space stands "=" or not.
 use mathlib.Core.Path.{sym, _∙_}
 use native.Mathlib.Omega.{arith}
 use borrow.Author.Needs.{needs}
 use Rattle.text.specs.Ascii.{ascii}
+use Rattle.xml.specs.Attributes.{equals}
 use Rattle.xml.proofs.Places.{starts-within}
-use Rattle.xml.proofs.Binding.{equals-value, equals-fault}
 use Rattle.xml.proofs.attributes.read_equals.Tie as tie
 use Rattle.xml.proofs.attributes.read_equals.Statement.{statement}
 
-add-skip-space : tie.Need-add-skip-space
-add-skip-space c = omega (arith, starts-within (ascii "=") (c .before .before .before .before .before .args .s .now) (c .before .before .before .skip-space .result) (omega arith) (sym (c .before .starts-at .ensures) ∙ c .if1 .taken))
-
-returns : tie.Need-returns
-returns c = equals-value _ _ _ _ _ _ _ (c .before .before .before .before .before .skip-space .ensures) (sym (c .before .before .before .starts-at .ensures) ∙ c .before .before .if1 .taken) (c .before .skip-space2 .ensures) (c .read-value .ensures)
-
-returns-2 : tie.Need-returns-2
-returns-2 c = equals-fault _ (c .before .before .before .before .before .args .p) (c .before .before .before .before .before .args .u) _ _ (c .before .before .before .skip-space .ensures) (sym (c .before .starts-at .ensures) ∙ c .if1 .left)
-
 pub read-equals-spec : {M : Type 1} → statement M
+unfolding equals
 read-equals-spec =
     tie.close
-    (tie.spec (λ c κs. search needs) (λ c. search needs) (λ c κs. search needs) add-skip-space (λ c κs. search needs) (λ c κs. search needs) returns
-    returns-2)
+    (tie.spec (λ c κs. search needs) (λ c. search needs) (λ c κs. search needs)
+    (λ c. omega (arith, starts-within (ascii "=") (c .before .before .before .before .before .args .s .now) (c .before .before .before .skip-space .result) (omega arith) (sym (c .before .starts-at .ensures) ∙ c .if1 .taken)))
+    (λ c κs. search needs) (λ c κs. search needs)
+    (λ c. rw (← (c .before .before .before .before .before .skip-space .ensures), sym (c .before .before .before .starts-at .ensures) ∙ c .before .before .if1 .taken, ← (c .before .skip-space2 .ensures)) (c .read-value .ensures))
+    (λ c. rw (← (c .before .before .before .skip-space .ensures), sym (c .before .starts-at .ensures) ∙ c .if1 .left)))

@@ -1,17 +1,16 @@
 -- The two tests are the definition's, as comparisons of places.
+use Prim.Native.Nat.{_-_}
+use native.Mathlib.Omega.{arith}
 use borrow.Author.Needs.{needs}
-use Rattle.xml.proofs.Binding.{prefix-none, prefix-long, prefix-some}
+use borrow.Author.Tests.{le-leb, lt-leb}
+use Rattle.xml.specs.Attributes.{prefixed}
 use Rattle.xml.proofs.attributes.read_prefixed.Tie as tie
 use Rattle.xml.proofs.attributes.read_prefixed.Statement.{statement}
 
-returns : tie.Need-returns
-returns c = prefix-none (c .before .before .args .s .now) (c .before .before .args .p) (c .before .before .args .u) (c .if1 .taken)
-
-returns-2 : tie.Need-returns-2
-returns-2 c = prefix-long (c .before .before .before .args .s .now) (c .before .before .before .args .p) (c .before .before .before .args .u) (c .if2 .taken)
-
-returns-3 : tie.Need-returns-3
-returns-3 c = prefix-some (c .before .before .before .before .args .s .now) (c .before .before .before .before .args .p) (c .before .before .before .before .args .u) _ (c .before .before .if1 .left) (c .before .if2 .left) (c .read-equals .ensures)
-
 pub read-prefixed-spec : {M : Type 1} → statement M
-read-prefixed-spec = tie.close (tie.spec returns (λ c. search needs) returns-2 (λ c κs. search needs) returns-3)
+unfolding prefixed
+read-prefixed-spec =
+    tie.close
+    (tie.spec (λ c. rw (lt-leb 1 (c .before .before .args .u - c .before .before .args .p) (omega arith))) (λ c. search needs)
+    (λ c. rw (le-leb 1 (c .before .before .before .args .u - c .before .before .before .args .p) (omega arith), lt-leb _ 16 (c .if2 .taken))) (λ c κs. search needs)
+    (λ c. rw (le-leb 1 (c .before .before .before .before .args .u - c .before .before .before .before .args .p) (omega arith), le-leb _ 16 (c .before .if2 .left)) (c .read-equals .ensures)))

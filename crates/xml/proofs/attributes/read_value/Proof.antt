@@ -1,21 +1,24 @@
 -- The value stands there in one of the two quotes or not; it has 38 bytes.
 use native.Mathlib.Omega.{arith}
 use borrow.Author.Needs.{needs}
-use Rattle.xml.proofs.Binding.{value-within, value-bound, value-fault}
+use Rattle.xml.specs.Attributes.{value}
+use Rattle.xml.proofs.Binding.{value-within}
 use Rattle.xml.proofs.attributes.read_value.Tie as tie
 use Rattle.xml.proofs.attributes.read_value.Statement.{statement}
 
 add-read-tail : tie.Need-add-read-tail
-add-read-tail c = omega (arith, value-within (c .before .before .before .before .before .before .args .s .now) (c .before .before .before .before .before .before .args .at) _ _ (c .before .before .before .starts-at .ensures) (c .before .starts-at2 .ensures) (c .if1 .taken))
-
-returns : tie.Need-returns
-returns c = value-bound _ (c .before .before .before .before .before .before .before .before .args .at) _ _ (c .before .before .before .before .before .starts-at .ensures) (c .before .before .before .starts-at2 .ensures) _ _ _ _ (c .before .before .if1 .taken) (c .before .read-tail .ensures) (c .bind .ensures)
-
-returns-2 : tie.Need-returns-2
-returns-2 c = value-fault _ (c .before .before .before .before .before .before .args .at) _ _ (c .before .before .before .starts-at .ensures) (c .before .starts-at2 .ensures) (c .before .before .before .before .before .before .args .p) (c .before .before .before .before .before .before .args .u) (c .if1 .left)
+add-read-tail c =
+    omega (
+      arith,
+      value-within (c .before .before .before .before .before .before .args .s .now) (c .before .before .before .before .before .before .args .at)
+          (c .before .before .before .starts-at .ensures) (c .before .starts-at2 .ensures) (c .if1 .taken),
+    )
 
 pub read-value-spec : {M : Type 1} → statement M
+unfolding value
 read-value-spec =
     tie.close
     (tie.spec (λ c. search needs) (λ c κs. search needs) (λ c. search needs) (λ c κs. search needs) add-read-tail (λ c κs. search needs)
-    (λ c κs. search needs) returns returns-2)
+    (λ c κs. search needs)
+    (λ c. rw (← (c .before .before .before .before .before .starts-at .ensures), ← (c .before .before .before .starts-at2 .ensures), c .before .before .if1 .taken, ← (c .before .read-tail .ensures)) (c .bind .ensures))
+    (λ c. rw (← (c .before .before .before .starts-at .ensures), ← (c .before .starts-at2 .ensures), c .if1 .left)))

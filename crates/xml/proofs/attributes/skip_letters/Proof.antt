@@ -1,11 +1,12 @@
 -- What is left to skip from i on, and i, is what was to skip from the start on.
-use mathlib.Core.Path.{_≡_, refl, sym, _∙_}
+use mathlib.Core.Path.{_≡_, refl}
 use Prim.Native.Nat.{_+_, _-_}
 use native.Mathlib.Omega.{arith}
 use lib.ListN.{length, drop}
 use borrow.Author.Needs.{needs}
-use Rattle.xml.specs.Bytes.{isLetter, leading}
-use Rattle.xml.proofs.Runs.{run-on, run-stop, run-end}
+use Rattle.text.specs.Bytes.{leading}
+use Rattle.text.proofs.Runs.{run-on, run-stop, run-end}
+use Rattle.xml.specs.Bytes.{isLetter}
 use Rattle.xml.proofs.attributes.skip_letters.Tie as tie
 use Rattle.xml.proofs.attributes.skip_letters.Statement.{statement}
 
@@ -15,17 +16,10 @@ Inv-loop s at i₀ i = i + leading isLetter (drop i s) ≡ at + leading isLetter
 abbrev μ-loop : tie.MeasureT-loop
 μ-loop s at i₀ i = length s - i
 
-loop-again : tie.Need-loop-again Inv-loop μ-loop
-loop-again c = sym (run-on isLetter _ _ (c .before .before .before .loop-test .taken) (sym (c .before .is-letter .ensures) ∙ c .if1 .taken)) ∙ c .before .before .before .before .loop .inv
-
-returns : tie.Need-returns Inv-loop μ-loop
-returns c = sym (run-stop isLetter _ _ (c .before .before .before .loop-test .taken) (sym (c .before .is-letter .ensures) ∙ c .if1 .left)) ∙ c .before .before .before .before .loop .inv
-
-returns-2 : tie.Need-returns-2 Inv-loop μ-loop
-returns-2 c = sym (run-end isLetter _ _ (c .loop-test .left)) ∙ c .before .loop .inv
-
 pub skip-letters-spec : {M : Type 1} → statement M
 skip-letters-spec =
     tie.close
-    (tie.spec Inv-loop μ-loop (λ c. refl) (λ c. search needs) (λ c κs. search needs) (λ c. omega arith) (λ c. omega arith) loop-again returns
-    returns-2)
+    (tie.spec Inv-loop μ-loop (λ c. refl) (λ c. search needs) (λ c κs. search needs) (λ c. omega arith) (λ c. omega arith)
+    (λ c. run-on isLetter _ _ _ (c .before .before .before .before .loop .inv) (c .before .before .before .loop-test .taken) (c .before .is-letter .ensures) (c .if1 .taken))
+    (λ c. run-stop isLetter _ _ _ (c .before .before .before .before .loop .inv) (c .before .before .before .loop-test .taken) (c .before .is-letter .ensures) (c .if1 .left))
+    (λ c. run-end isLetter _ _ _ (c .before .loop .inv) (c .loop-test .left)))

@@ -1,4 +1,4 @@
--- A text too short for the byte behind "<?xml" starts no declaration.
+-- A text too short for the byte after "<?xml" starts no declaration.
 use borrow.Author.Needs.{needs}
 use Rattle.xml.proofs.Declaration.{declares-short, declares-is}
 use Rattle.xml.proofs.opening.declares.Tie as tie

@@ -1,42 +1,47 @@
--- From each place on, behind plain bytes and others without a fault, the text is what it is from the start on.
-use mathlib.Core.Path.{_≡_, sym, _∙_}
+-- From each place on, after plain bytes and others without a fault, the text is what it is from the start on.
+use mathlib.Core.Path.{_≡_, _∙_}
 use Prim.Native.Nat.{_-_}
 use native.Mathlib.Omega.{arith}
 use lib.ListN.{length}
 use borrow.Author.Needs.{needs}
-use Rattle.xml.specs.Texts.{content}
-use Rattle.xml.proofs.Faults.{content-on, content-stop, content-fault, content-none, content-run}
+use borrow.Author.Tests.{eq-eqb, ne-eqb}
+use Rattle.text.specs.Ascii.{ascii}
+use Rattle.text.specs.Parts.{startsWith}
+use Rattle.xml.specs.Texts.{isFault, content}
+use Rattle.xml.proofs.Searches.{up-on, up-stop, up-fault, up-none}
+use Rattle.xml.proofs.Contents.{end-is, content-run}
 use Rattle.xml.proofs.texts.read_text.Tie as tie
 use Rattle.xml.proofs.texts.read_text.Statement.{statement}
 
 abbrev Inv-loop : tie.InvT-loop
-Inv-loop s at i₀ i = content s i ≡ content s at
+Inv-loop s at i₀ t i = content s i ≡ content s at
 
 abbrev μ-loop : tie.MeasureT-loop
-μ-loop s at i₀ i = length s - i
+μ-loop s at i₀ t i = length s - i
 
 returns : tie.Need-returns Inv-loop μ-loop
-returns c = sym (content-stop _ _ (c .before .before .loop-test .taken) (c .if1 .taken)) ∙ c .before .before .before .loop .inv
+unfolding content
+returns c = up-stop (startsWith (ascii "<")) isFault _ _ _ (c .before .before .before .loop .inv) (c .before .before .loop-test .taken) (end-is _ _ (c .before .before .loop-test .taken)) (eq-eqb _ _ (c .if1 .taken))
 
 returns-2 : tie.Need-returns-2 Inv-loop μ-loop
+unfolding content
 returns-2 c =
-    let fault = sym (c .before .before .is-fault .ensures) ∙ c .before .if2 .taken in
-    c .faulty .ensures
-    ∙ (sym (content-fault _ _ (c .before .before .before .before .before .loop-test .taken) (c .before .before .before .if1 .left) fault)
-    ∙ c .before .before .before .before .before .before .loop .inv)
+    up-fault (startsWith (ascii "<")) isFault _ _ _ (c .before .before .before .before .before .before .before .loop .inv) (c .before .before .before .before .before .before .loop-test .taken) (end-is _ _ (c .before .before .before .before .before .before .loop-test .taken)) (ne-eqb _ _ (c .before .before .before .before .if1 .left))
+    (c .before .before .before .is-fault .ensures) (c .before .before .if2 .taken) (c .faulty .ensures)
 
 loop-again : tie.Need-loop-again Inv-loop μ-loop
+unfolding content
 loop-again c =
-    let fine = sym (c .before .before .is-fault .ensures) ∙ c .before .if2 .left in
     content-run _ _ _ (c .plain-end2 .ensures)
-    ∙ (sym (content-on _ _ (c .before .before .before .before .before .loop-test .taken) (c .before .before .before .if1 .left) fine)
-    ∙ c .before .before .before .before .before .before .loop .inv)
+    ∙ up-on (startsWith (ascii "<")) isFault _ _ _ (c .before .before .before .before .before .before .loop .inv) (c .before .before .before .before .before .loop-test .taken) (end-is _ _ (c .before .before .before .before .before .loop-test .taken)) (ne-eqb _ _ (c .before .before .before .if1 .left))
+    (c .before .before .is-fault .ensures) (c .before .if2 .left)
 
 returns-3 : tie.Need-returns-3 Inv-loop μ-loop
-returns-3 c = sym (content-none _ _ (c .loop-test .left)) ∙ c .before .loop .inv
+unfolding content
+returns-3 c = up-none (startsWith (ascii "<")) isFault _ _ _ (c .before .loop .inv) (c .loop-test .left)
 
 pub read-text-spec : {M : Type 1} → statement M
 read-text-spec =
     tie.close
     (tie.spec Inv-loop μ-loop (λ c κs. search needs) (λ c. content-run _ _ _ (c .plain-end .ensures)) (λ c. search needs) returns
-    (λ c κs. search needs) (λ c κs. search needs) returns-2 (λ c. omega arith) (λ c κs. search needs) (λ c. omega arith) loop-again returns-3)
+    (λ c κs. search needs) (λ c. search needs) (λ c κs. search needs) returns-2 (λ c. omega arith) (λ c κs. search needs) (λ c. omega arith) loop-again returns-3)

@@ -5,8 +5,9 @@ use native.Mathlib.Omega.{arith}
 use lib.ListN.{length, drop}
 use borrow.Author.Needs.{needs}
 use borrow.Author.Tests.{leb-true, not-false}
-use Rattle.xml.specs.Bytes.{isPlain, leading}
-use Rattle.xml.proofs.Runs.{run-part}
+use Rattle.text.specs.Bytes.{leading}
+use Rattle.text.proofs.Runs.{run-part}
+use Rattle.xml.specs.Bytes.{isPlain}
 use Rattle.xml.proofs.texts.skip_blocks.Tie as tie
 use Rattle.xml.proofs.texts.skip_blocks.Statement.{statement}
 

@@ -1,0 +1,4 @@
+pub mod Chain
+pub mod Room
+pub mod Copying
+pub mod Lent

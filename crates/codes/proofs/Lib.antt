@@ -1,0 +1,4 @@
+pub mod Table
+pub mod Search
+pub mod Numbers
+pub mod Each

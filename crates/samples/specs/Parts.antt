@@ -1,0 +1,171 @@
+-- Worked samples: whole documents, their sheets with the sentences that say them, and places inside and outside their parts.
+use mathlib.Core.Path.{_≡_, refl}
+use mathlib.Core.List.{List, [], _++_}
+use Prim.Native.Nat.{ℕ, _*_}
+use lib.IntN.{pos}
+use Rattle.text.specs.Ascii.{ascii}
+use Rattle.text.specs.Bytes.{numberFrom}
+use Rattle.text.specs.Tokens.{onToken, longer, tokens}
+use Rattle.text.specs.Parts.{startsWith}
+use Rattle.xml.specs.Tags as tags
+use Rattle.xml.specs.Attributes as attribute
+use Rattle.xml.specs.Comments as comments
+use Rattle.xml.specs.Texts as texts
+use Rattle.xml.specs.Opening as opening
+use Rattle.schema.specs.Classes as class
+use Rattle.schema.specs.Sequences.{containerOf, nextOf}
+use Rattle.time.specs.Calendar.{daysOfYears, daysOfMonths}
+use Rattle.time.specs.Time.{hasForm, stampOf, isStamp, localSeconds, epoch, offset, instantOf, stampTime, timeOf}
+use Rattle.words.specs.Words.{dictionary, word, spaced, ones, belowHundred, belowThousand, group, numberCodes, said}
+use Rattle.words.specs.Duration.{counted, durationCodes, lasting}
+use Rattle.codes.specs.declared.MessageType.the-variants as message
+use Rattle.codes.specs.declared.Status.the-variants as status
+use Rattle.codes.specs.declared.Scope.the-variants as scope
+use Rattle.codes.specs.declared.Urgency.the-variants as urgency
+use Rattle.codes.specs.declared.Severity.the-variants as severity
+use Rattle.codes.specs.declared.Certainty.the-variants as certainty
+use Rattle.sheet.specs.declared.Lasting.the-variants.{Seconds}
+use Rattle.sheet.specs.declared.Parts.the-variants.{OnePart}
+use Rattle.sheet.specs.Sheet.{cap, allNameBytes}
+use Rattle.sheet.specs.Sentence.{sentence, sentenceIn, capText, partsText, partText, lastingText}
+use Rattle.sheet.specs.Reading.{spanIn}
+use Rattle.coordinates.specs.declared.Place.{Place}
+use Rattle.coordinates.specs.Decimal.{leads, places, fraction, decimalLength, isDecimal, scaled, radiusOf}
+use Rattle.coordinates.specs.Place.{coordinateAt, degreesOf, pairOf}
+use Rattle.polygon.specs.Polygon.{allPairs, placesOf, lastOf, isClosed, isPolygon, eastOf, northOf, onEdge, crosses, onRing, crossings, inRing, polygonHolds}
+use Rattle.circle.specs.Cosine.{cosines}
+use Rattle.circle.specs.Circle.{circleTokens, circleOf, inCircle, aroundHolds, circleHolds}
+use Rattle.codes.specs.Lists.{lists, codeOf, smallText}
+use Rattle.rules.specs.Texts.{nameRule, codeRule, timeRule, polygonRule, circleRule, textRule}
+use Rattle.document.specs.Elements.{starts, fold}
+use Rattle.document.specs.Tags.{openStep, emptyStep, boundStep, localName, isAlert, startStep, closeStep, endedStep, tagStep}
+use Rattle.document.specs.Constructs.{constructStep, stepOf}
+use Rattle.document.specs.Documents.{firstStep, run, documentOf}
+use Rattle.parts.specs.declared.CapSheet.{CapSheet}
+use Rattle.parts.specs.declared.CapSheet.the-variants as drawn
+use Rattle.parts.specs.declared.CapPlace.the-variants as placed
+use Rattle.parts.specs.Elements.{within, lookUp}
+use Rattle.parts.specs.Sheets.{lastsOf, capSheet}
+use Rattle.parts.specs.Places.{anyText, capPlace}
+
+-- ---- documents
+
+-- an alert's start and what it holds up to its first info
+abbrev pub head : (name sent message : List ℕ) → List ℕ
+head name sent message =
+    ascii "<alert xmlns=\"urn:oasis:names:tc:emergency:cap:1.2\">"
+    ++ ascii "<identifier>" ++ name ++ ascii "</identifier><sender>kiln.example</sender><sent>" ++ sent ++ ascii "</sent>"
+    ++ ascii "<status>Actual</status><msgType>" ++ message ++ ascii "</msgType><scope>Public</scope>"
+
+-- an info with its times and areas
+abbrev pub info : (times areas : List ℕ) → List ℕ
+info times areas =
+    ascii "<info><category>Met</category><event>Storm</event><urgency>Immediate</urgency>"
+    ++ ascii "<severity>Extreme</severity><certainty>Observed</certainty>" ++ times ++ areas ++ ascii "</info>"
+
+abbrev pub end : List ℕ
+end = ascii "</alert>"
+
+-- one part, from when it was sent to an hour and a quarter later on a clock that is an hour ahead
+abbrev pub alert : List ℕ
+alert =
+    head (ascii "A17") (ascii "2026-03-01T10:00:00-00:00") (ascii "Alert")
+    ++ info (ascii "<expires>2026-03-01T11:15:00+01:00</expires>") [] ++ end
+
+-- the same from the time that it is effective, which is not that of sending
+abbrev pub delayed : List ℕ
+delayed =
+    head (ascii "A17") (ascii "2026-02-28T08:30:00-00:00") (ascii "Alert")
+    ++ info (ascii "<effective>2026-03-01T10:00:00-00:00</effective><expires>2026-03-01T11:15:00+01:00</expires>") [] ++ end
+
+-- it expires when it was sent
+abbrev pub expired : List ℕ
+expired =
+    head (ascii "A17") (ascii "2026-03-01T10:00:00-00:00") (ascii "Alert")
+    ++ info (ascii "<expires>2026-03-01T11:00:00+01:00</expires>") [] ++ end
+
+-- no part
+abbrev pub cancel : List ℕ
+cancel = head (ascii "A18") (ascii "2026-03-01T10:20:00-00:00") (ascii "Cancel") ++ end
+
+-- two parts, the first with an area, the second with no time
+abbrev pub double : List ℕ
+double =
+    head (ascii "A19") (ascii "2026-03-01T10:00:00-00:00") (ascii "Update")
+    ++ info (ascii "<expires>2026-03-02T10:00:00-00:00</expires>")
+    (ascii "<area><areaDesc/><polygon>0,0 0,10 10,10 10,0 0,0</polygon><circle>20,20 1</circle></area>")
+    ++ info [] [] ++ end
+
+-- the sheet of alert's part, with the places of sender and name
+abbrev pub kiln : CapSheet
+kiln =
+    drawn.Sheet
+    (record {
+      message = message.Alert;
+      status = status.Actual;
+      scope = scope.Public;
+      parts = OnePart (record { number = 1; total = 1; urgency = urgency.Immediate; severity = severity.Extreme; certainty = certainty.Observed; lasting = Seconds 900 });
+    })
+    (record { start = 88; len = 12 })
+    (record { start = 64; len = 3 })
+
+-- what a sheet's sentence says; nothing for none
+abbrev pub saidOf : List ℕ → CapSheet → List ℕ
+saidOf l (drawn.Sheet f sender name) = sentence (cap f (spanIn l sender) (spanIn l name))
+saidOf l drawn.NotThere = []
+saidOf l drawn.OutOfRange = []
+saidOf l (drawn.Refused k p) = []
+
+abbrev pub degrees : ℕ → ℕ → Place
+degrees y x = record { lat = pos (y * 10_000_000); lon = pos (x * 10_000_000) }
+
+-- ---- the samples
+
+pub record Samples : Type 0 where
+  -- the first sample of 01: fifteen minutes, from when it was sent or from when it is effective
+  pub sample-alert :
+      (capSheet 1 alert ≡ kiln)
+      × (capSheet 1 delayed ≡ kiln)
+      × (saidOf alert kiln ≡ ascii "cap alert, actual, public, from kiln.example, name A17, part one of one, immediate, extreme, observed, lasts fifteen minutes.\n")
+  -- the second: no parts
+  pub sample-cancel : saidOf cancel (capSheet 0 cancel) ≡ ascii "cap cancel, actual, public, from kiln.example, name A18, no parts.\n"
+  -- the parts of two, the second without a time
+  pub sample-double :
+      (saidOf double (capSheet 1 double) ≡ ascii "cap update, actual, public, from kiln.example, name A19, part one of two, immediate, extreme, observed, lasts one day.\n")
+      × (saidOf double (capSheet 2 double) ≡ ascii "cap update, actual, public, from kiln.example, name A19, part two of two, immediate, extreme, observed, lasts no stated time.\n")
+  -- a part that isn't there: after the last, 0 where there are parts, 1 where there are none; a part that lasts no second; no document
+  pub sample-refusals :
+      (capSheet 2 alert ≡ drawn.NotThere)
+      × (capSheet 0 alert ≡ drawn.NotThere)
+      × (capSheet 1 cancel ≡ drawn.NotThere)
+      × (capSheet 2 expired ≡ drawn.NotThere)
+      × (capSheet 1 expired ≡ drawn.OutOfRange)
+      × (capSheet 1 (ascii "<html>") ≡ drawn.Refused 16 0)
+  -- in the polygon, at the circle's centre, in neither; no shape in a part, none in part 0; no such place, no such part; no document
+  pub sample-places :
+      (capPlace 1 (degrees 5 5) double ≡ placed.Inside)
+      × (capPlace 1 (degrees 20 20) double ≡ placed.Inside)
+      × (capPlace 1 (degrees 15 15) double ≡ placed.Outside)
+      × (capPlace 2 (degrees 5 5) double ≡ placed.NoShape)
+      × (capPlace 0 (degrees 5 5) cancel ≡ placed.NoShape)
+      × (capPlace 1 (degrees 91 5) double ≡ placed.OutOfRange)
+      × (capPlace 3 (degrees 91 5) double ≡ placed.NotThere)
+      × (capPlace 1 (degrees 91 5) (ascii "<html>") ≡ placed.Refused 16 0)
+
+pub samples : Samples
+unfolding capSheet lastsOf lookUp within fold starts documentOf firstStep run stepOf constructStep tagStep endedStep startStep isAlert localName
+    boundStep openStep emptyStep closeStep textRule timeRule codeRule nameRule codeOf lists smallText allNameBytes timeOf stampTime instantOf offset epoch
+    localSeconds isStamp stampOf hasForm daysOfYears daysOfMonths nextOf containerOf class.classOf class.find class.names opening.prolog
+    opening.declaration texts.content texts.isFault texts.isReference comments.comment attribute.nameSpace attribute.declared attribute.prefixed
+    attribute.equals attribute.value tags.tail tags.tagEnd startsWith numberFrom sentence sentenceIn capText partsText partText lastingText dictionary
+    word spaced ones belowHundred belowThousand group numberCodes said counted durationCodes lasting capPlace anyText polygonRule circleRule
+    circleHolds aroundHolds inCircle cosines circleOf circleTokens radiusOf polygonHolds inRing onRing crossings onEdge crosses eastOf northOf
+    isPolygon allPairs placesOf isClosed lastOf pairOf degreesOf coordinateAt scaled fraction places decimalLength isDecimal leads tokens onToken
+    longer
+samples = record {
+  sample-alert = (refl, refl, refl);
+  sample-cancel = refl;
+  sample-double = (refl, refl);
+  sample-refusals = (refl, refl, refl, refl, refl, refl);
+  sample-places = (refl, refl, refl, refl, refl, refl, refl, refl);
+}

@@ -1,0 +1,6 @@
+pub mod Table
+pub mod Hash
+pub mod Letters
+pub mod Groups
+pub mod Units
+pub mod Turns

@@ -1,0 +1,1 @@
+// Laws for proofs by hand: no code.

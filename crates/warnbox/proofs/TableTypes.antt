@@ -1,0 +1,33 @@
+-- The types of the event table as a walk by hand takes them: plain data.
+-- Assumes nothing.
+use Rattle.walks.proofs.Types.{Plain, struct, enum}
+use Rattle.events.proofs.Entry as T
+use Rattle.events.proofs.Entry.Laws as T′
+use Rattle.events.proofs.Receipt as N
+use Rattle.events.proofs.Receipt.Laws as N′
+use Rattle.events.proofs.Position as O
+use Rattle.events.proofs.Position.Laws as O′
+use Rattle.events.proofs.checks.Checked as K
+use Rattle.events.proofs.checks.Checked.Laws as K′
+use Rattle.events.proofs.plans.Candidates as P
+use Rattle.events.proofs.plans.Candidates.Laws as P′
+use Rattle.events.proofs.plans.Plan as L
+use Rattle.events.proofs.plans.Plan.Laws as L′
+
+abbrev pub entry : Plain T.the-row
+entry = struct T.the-type T′.the-laws T′.the-plain
+
+abbrev pub checked : Plain K.the-row
+checked = struct K.the-type K′.the-laws K′.the-plain
+
+abbrev pub candidates : Plain P.the-row
+candidates = struct P.the-type P′.the-laws P′.the-plain
+
+abbrev pub plan : Plain L.the-row
+plan = struct L.the-type L′.the-laws L′.the-plain
+
+abbrev pub receipt : Plain N.the-row
+receipt = enum N.the-type N′.the-laws tt N′.the-plain
+
+abbrev pub position : Plain O.the-row
+position = enum O.the-type O′.the-laws tt O′.the-plain

@@ -1,0 +1,67 @@
+-- `find` meets its contract: a walk of its MIR, by hand. `scan` is called on the slice, and `position` on what it found.
+-- Assumes nothing.
+use Rattle.walks.proofs.Walk.{_≡_, refl, _∙_, _∷_, [], ℕ, List, length, URA, w32, w64, Val, vint, SProp, ent, id⊢, Memory, Routine, Heap, WpFn}
+use Rattle.walks.proofs.Walk.{Tables, Atoms, Fun, factI, givenOf, tables, tablesOf}
+use Rattle.walks.proofs.Walk.{Given, raw, _$_, _∵_, !, qed, move, drop, by, whole, sub, of-opd, and-then, no-more, now, sliceVal}
+use Rattle.walks.proofs.Walk.{Triple, Vals, onEntry, tripleOf, Meets, entered, cited, Stays, emp, named}
+use Rattle.walks.proofs.Locals.{holds, enters, leaves}
+use Rattle.walks.proofs.Types.{number, shared, typed}
+use Rattle.walks.proofs.Steps.{local, part, sets, lands-in}
+use Rattle.walks.proofs.Calls.{calls-equal, calls-plain}
+use Rattle.walks.proofs.Walked.{drops, all-drop, had, ends-free, met}
+use Rattle.events.specs.declared.Entry.{Entry}
+use Rattle.events.specs.declared.plans.Candidates.{Candidates}
+use Rattle.events.specs.Table.{positionOf}
+use Rattle.events.specs.Steps.{scanned, positionIn}
+use Rattle.events.proofs.Outcomes.{position-is}
+use Rattle.events.proofs.Entry as T
+use Rattle.warnbox.proofs.TableTypes.{candidates, position}
+use Rattle.warnbox.proofs.tables.scan as scan
+use Rattle.warnbox.proofs.tables.scan.Symbol as scan-def
+use Rattle.warnbox.proofs.tables.scan.Met as scan-thm
+use Rattle.events.proofs.plans.position as place
+use Rattle.events.proofs.plans.position.Symbol as place-def
+use Rattle.events.proofs.plans.position.Met as place-thm
+use Rattle.warnbox.proofs.tables.find.Key.{name as #find}
+use Rattle.warnbox.proofs.tables.find as find
+use Rattle.warnbox.proofs.tables.find.Statement as stated
+use Rattle.warnbox.proofs.tables.find.Code as code
+
+abbrev stayed : Stays (find.ended .signature .params) (find.ended .kept)
+stayed = drops (find.ended .signature .params) (find.ended .kept)
+
+module _ {M : Type 1} (𝓤 : URA M) (H : Heap 𝓤) (A : Atoms 𝓤) (W : Given 𝓤 H A) (mem : Memory → SProp 𝓤) (run : Routine → Fun 𝓤) (𝓣 : Tables 𝓤 H)
+    (scans : Triple 𝓤 (𝓣 .C scan-def.name) (tripleOf 𝓤 H A scan.signature (scan.spec 𝓤 H A mem run)))
+    (finds : Triple 𝓤 (𝓣 .C place-def.name) (tripleOf 𝓤 H A place.signature (place.spec 𝓤 H A mem run))) where
+  meets : Meets 𝓤 H A find.signature (WpFn 𝓤 H (𝓣 .C) (𝓣 .Λ) code.function) (find.spec 𝓤 H A mem run)
+  meets = met W find.ended stayed (find.clauses 𝓤 H A mem run) (all-drop 𝓤 H A W (find.signature .params) (find.ended .kept)
+      ((λ κs x f. refl), ((λ κs x f. refl), ((λ κs x f. refl), tt)))) 𝓣 code.function
+      (λ κs. (shared (named 0) (κs .0) T.the-row, (number w32 .spelled, (number w32 .spelled, tt)))) (λ κs qs b a g are are-typed.
+      let xs : List Entry = now (a .0) in
+      let slice : Val = sliceVal (a .0 .ptr) (length xs) in
+      let s : Candidates = scanned (a .1 .0) (a .1 .1 .0) xs in
+      let at : Vals find.signature κs = (slice ∷ [], (vint w32 (a .1 .0) ∷ [], (vint w32 (a .1 .1 .0) ∷ [], tt))) in
+      qed W (raw (onEntry 𝓤 H A find.signature κs qs a at) ∷ []) ∵ enters ! code.function _ (λ _. are-typed) (λ bs. move ! (12 ∷ []) $
+      calls-equal ! 𝓣 scan.ended (scan.clauses 𝓤 H A mem run) scans ((κs, qs, tt, a, at), tt) (id⊢ 𝓤 _) (id⊢ 𝓤 _) candidates s (λ r ws. r ≡ s)
+      (λ r ws. id⊢ 𝓤 _) (λ r ws e. e)
+      (and-then ! (local ! 2 refl) (and-then ! (local ! 3 refl) (and-then ! (local ! 4 refl) (no-more !)))) (λ ws _ is.
+      lands-in ! 6 refl (typed 𝓤 H A W candidates s is .0) $ sets ! 7 refl (of-opd ! (part ! 3 refl (sub ! 1 refl (whole !))))
+      (tt, record { fits = are .0 .0 .1 .0 }) $
+      calls-plain ! 𝓣 place.ended (place.clauses 𝓤 H A mem run) finds tt tt tt (s, (length xs, tt)) tt (id⊢ 𝓤 _) (id⊢ 𝓤 _) (candidates, (number w64, tt))
+      (is, ((refl, are .0 .0 .1 .0), tt))
+      position (positionIn (s .known) (length xs)) (λ r ws. id⊢ 𝓤 _) (and-then ! (local ! 7 refl) (and-then ! (local ! 8 refl) (no-more !))) (λ found.
+      lands-in ! 2 refl (typed 𝓤 H A W position (positionIn (s .known) (length xs)) found .0) $
+      leaves ! (_ ∷ _ ∷ []) _ (holds slice ∷ holds _ ∷ holds _ ∷ holds _ ∷ holds _ ∷ []) [] $ move ! (1 ∷ []) $ drop ! $
+      by ! (ends-free W find.ended stayed (find.clauses 𝓤 H A mem run) ((κs, qs, tt, a, at), tt) _ (tt, (tt, (tt, tt))) (tt, (tt, (tt, tt)))
+      (factI 𝓤 _ (emp 𝓤) (position-is (a .1 .0) (a .1 .1 .0) xs s refl (length xs) refl)) position found (had 𝓤 H A W (find.signature .params)))))))
+
+pub find-spec : {M : Type 1} → stated.statement M
+unfolding code.routine tablesOf
+find-spec 𝓤 H 𝓜 𝓖 𝓡 =
+    entered 𝓤 H (tripleOf 𝓤 H (𝓖 .A) find.signature (find.spec 𝓤 H (𝓖 .A) (𝓜 .mem) (𝓡 .run))) (tables 𝓤 H 𝓜 𝓡 code.env .C)
+    (tables 𝓤 H 𝓜 𝓡 code.env .Λ) #find code.function (code.unfolded 𝓤 H 𝓜 𝓡)
+    (meets 𝓤 H (𝓖 .A) (givenOf 𝓤 H 𝓜 𝓖) (𝓜 .mem) (𝓡 .run) (tablesOf 𝓤 H 𝓜 (tables 𝓤 H 𝓜 𝓡 code.env))
+    (cited 𝓤 H (tripleOf 𝓤 H (𝓖 .A) scan.signature (scan.spec 𝓤 H (𝓖 .A) (𝓜 .mem) (𝓡 .run))) 𝓜 𝓡 code.env scan-def.name scan-def.routine
+    code.calls-warnbox·tables·scan (scan-thm.met 𝓤 H 𝓜 𝓖 𝓡))
+    (cited 𝓤 H (tripleOf 𝓤 H (𝓖 .A) place.signature (place.spec 𝓤 H (𝓖 .A) (𝓜 .mem) (𝓡 .run))) 𝓜 𝓡 code.env place-def.name place-def.routine
+    code.calls-events·plans·position (place-thm.met 𝓤 H 𝓜 𝓖 𝓡)))

@@ -1,0 +1,44 @@
+-- From each place on, after bytes without a fault, the declaration is what it is from the start on.
+use mathlib.Core.Path.{_≡_, refl}
+use Prim.Native.Nat.{_-_}
+use native.Mathlib.Omega.{arith}
+use lib.ListN.{length}
+use borrow.Author.Needs.{needs}
+use Rattle.text.specs.Ascii.{ascii}
+use Rattle.text.specs.Bytes.{ledBy}
+use Rattle.text.specs.Parts.{startsWith}
+use Rattle.text.proofs.Runs.{led-is}
+use Rattle.xml.specs.Bytes.{isControl}
+use Rattle.xml.specs.Opening.{declarationText}
+use Rattle.xml.proofs.Searches.{up-on, up-stop, up-fault, up-none}
+use Rattle.xml.proofs.opening.read_declaration_text.Tie as tie
+use Rattle.xml.proofs.opening.read_declaration_text.Statement.{statement}
+
+abbrev Inv-loop : tie.InvT-loop
+Inv-loop s at i₀ t4 t5 i = declarationText s i ≡ declarationText s at
+
+abbrev μ-loop : tie.MeasureT-loop
+μ-loop s at i₀ t4 t5 i = length s - i
+
+returns-2 : tie.Need-returns-2 Inv-loop μ-loop
+returns-2 c =
+    up-fault (startsWith (ascii "?>")) (ledBy isControl) _ _ _ (c .before .before .before .before .before .before .before .before .before .loop .inv) (c .before .before .before .before .before .before .before .before .loop-test .taken)
+    (c .before .before .before .before .before .before .starts-at .ensures) (c .before .before .before .before .before .if1 .left)
+    (led-is isControl _ _ (c .before .before .before .before .before .before .before .before .loop-test .taken) (c .before .before .before .is-control .ensures))
+    (c .before .before .if2 .taken) (c .faulty .ensures)
+
+loop-again : tie.Need-loop-again Inv-loop μ-loop
+loop-again c =
+    up-on (startsWith (ascii "?>")) (ledBy isControl) _ _ _ (c .before .before .before .before .before .before .before .loop .inv) (c .before .before .before .before .before .before .loop-test .taken)
+    (c .before .before .before .before .starts-at .ensures) (c .before .before .before .if1 .left)
+    (led-is isControl _ _ (c .before .before .before .before .before .before .loop-test .taken) (c .before .is-control .ensures))
+    (c .if2 .left)
+
+pub read-declaration-text-spec : {M : Type 1} → statement M
+read-declaration-text-spec =
+    tie.close
+    (tie.spec Inv-loop μ-loop (λ c. refl) (λ c. search needs) (λ c κs. search needs)
+    (λ c. up-stop (startsWith (ascii "?>")) (ledBy isControl) _ _ _ (c .before .before .before .before .loop .inv) (c .before .before .before .loop-test .taken) (c .before .starts-at .ensures) (c .if1 .taken))
+    (λ c. search needs) (λ c κs. search needs) (λ c. search needs) (λ c κs. search needs) returns-2
+    (λ c. omega arith) (λ c. omega arith) loop-again
+    (λ c. up-none (startsWith (ascii "?>")) (ledBy isControl) _ _ _ (c .before .loop .inv) (c .loop-test .left)))
