@@ -86,7 +86,7 @@ REFUSED = [
     (15, HEAD + "<info>" + RATED), (15, START + "<identifier>A17"), (15, START + "<identifier>A&17"), (15, START + "<identifier>A17</identifier"),
     (15, START + "<identifier>A17<!-- "), (15, "<"), (15, "<alert xmlns='"), (15, "<!-- a --"), (15, "<!-->"), (15, "<!--->"), (15, SOUND + "<"), (15, SOUND + "<!--"),
     (15, SOUND + "<x '>"), (15, "<![CDATA[it's]]>"), (15, "<?x it's ?>" + SOUND.replace("'", "")), (15, HEAD + "</alert'>"),
-    # the declaration: too long, control byte, not at the start, no white space behind "<?xml"
+    # the declaration: too long, control byte, not at the start, no white space after "<?xml"
     (15, MARK + "<?xml " + "x" * 121 + "?>" + SOUND), (15, "\ufeff" + MARK + "<?xml \x01?>" + SOUND), (15, " " + MARK + "<?xml ?>" + SOUND),
     (15, MARK + "<?xml?>" + SOUND), (15, MARK + "<?xml-stylesheet href='a'?>" + SOUND), (15, "<?xml ?>" + MARK + "<?xml ?>" + SOUND),
     # a part of a BOM, a second one: text outside leaf elements

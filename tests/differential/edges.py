@@ -77,7 +77,7 @@ def polygon_text(rng, was):
 
 
 def circle_text(rng, was):
-    """The circle with its centre or its radius changed, or with something between or behind."""
+    """The circle with its centre or its radius changed, or with something between or after."""
     centre, radius = [*was.decode("latin-1").split(), "0,0", "1"][:2]
     kind = rng.randrange(4)
     if kind == 0:

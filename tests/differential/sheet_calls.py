@@ -33,8 +33,8 @@ def case(rng):
 def laid_out(rng):
     """A text in which a sender and a name stand, as (start, length); they may touch, overlap, be the same, or end the text."""
     sender, name = one_name(rng), one_name(rng)
-    before, between, behind = (rng.randbytes(rng.choice((0, 0, 1, 20))) for _ in range(3))
-    text = before + sender + between + name + behind
+    before, between, after = (rng.randbytes(rng.choice((0, 0, 1, 20))) for _ in range(3))
+    text = before + sender + between + name + after
     sender_at, name_at = (len(before), len(sender)), (len(before) + len(sender) + len(between), len(name))
     if chance(rng, 10):
         return text, sender_at, sender_at
