@@ -5,7 +5,8 @@
 
 `rt ci` tries the edits under must-fail/, each by a check of its crate from nothing. Here a crate is checked once from nothing into a
 folder of its own, as it stands (it must be proved), and each edit over a copy of that folder, so that only what the edit reaches is
-checked again. A result that were kept wrongly could only let an edit pass as proved, and then it counts as failed.
+checked again. A result that was kept wrongly is expected to let an edit pass as proved, which counts as failed. The place
+that is printed is that of the first message, which may be a note and not the error.
 """
 import concurrent.futures
 import glob
