@@ -1,6 +1,6 @@
 /* The warning box's library: public warnings (CAP 1.2 documents, WARN 1.0 packets) in one sentence each.
  *
- * Every function ends, writes nothing but what is said here, and either answers or refuses with the number and the place that the
+ * Every function ends, writes nothing but what is said here, and either answers or refuses with the number and the offset that the
  * project's rules (document 01) fix; each is proved to do so for all inputs (crates/warnbox). The numbers:
  *
  *    1 packet too short            8 key id not listed          14 document over 65,536 bytes, sender or identifier over 128, 17th info
@@ -14,7 +14,7 @@
  *                                                               23 text isn't whole read-backs, or a sheet has a fact out of range
  *
  * What a function returns is the number of the refusal, or 0 for an answer. With an answer *value is what the function tells; with a
- * refusal it is the refusal's place in the document or text, 0 where the rules name none. A refusal changes nothing else.
+ * refusal it is the refusal's offset in the document or text, 0 where the rules name none. A refusal changes nothing else.
  *
  * What a caller owes, since C can't say it:
  *  - no pointer is null, also where its length is 0;
@@ -40,7 +40,7 @@ extern "C" {
 uint8_t warnbox_check_document(const uint8_t *document, size_t document_length, uint64_t *value);
 
 /* Writes the sentence of a part into a buffer from `start` on; all other bytes of the buffer stay. Parts are counted from 1; a document
- * that has none is asked for part 0. *value: the place after the sentence. Refusals: the document's own, then 21, 7, 13.
+ * that has none is asked for part 0. *value: the next start, which is the offset after the sentence. Refusals: the document's own, then 21, 7, 13.
  * 739 bytes are room enough for any sentence. */
 uint8_t warnbox_document_sentence(uint8_t *buffer, size_t buffer_length, size_t start,
                                   const uint8_t *document, size_t document_length, size_t part, uint64_t *value);
@@ -54,7 +54,7 @@ enum { WARNBOX_OUTSIDE = 0, WARNBOX_INSIDE = 1, WARNBOX_NO_SHAPE = 2 };
 
 /* ---- WARN packets */
 
-/* Writes the sentence of a packet into a buffer from `start` on. *value: the place after it. Refusals: 1 to 7, then 13. */
+/* Writes the sentence of a packet into a buffer from `start` on. *value: the next start. Refusals: 1 to 7, then 13. */
 uint8_t warnbox_packet_sentence(uint8_t *buffer, size_t buffer_length, size_t start,
                                 const uint8_t *packet, size_t packet_length, uint64_t *value);
 
@@ -121,7 +121,7 @@ struct warnbox_sheet {
 enum { WARNBOX_CAP = 1, WARNBOX_WARN = 2 };
 
 /* Writes the sentence of a sheet into a buffer from `start` on. `text` is where a CAP sheet's sender and name stand; for a WARN sheet it
- * isn't looked at. *value: the place after the sentence. Refusals: 23, 13. */
+ * isn't looked at. *value: the next start. Refusals: 23, 13. */
 uint8_t warnbox_write(uint8_t *buffer, size_t buffer_length, size_t start, const uint8_t *text, size_t text_length,
                       const struct warnbox_sheet *sheet, uint64_t *value);
 

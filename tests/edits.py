@@ -5,8 +5,8 @@
 
 `rt ci` tries the edits under must-fail/, each by a check of its crate from nothing. Here a crate is checked once from nothing into a
 folder of its own, as it stands (it must be proved), and each edit over a copy of that folder, so that only what the edit reaches is
-checked again. A result that was kept wrongly is expected to let an edit pass as proved, which counts as failed. The place
-that is printed is that of the first message, which may be a note and not the error.
+checked again. A result that was kept wrongly is expected to let an edit pass as proved, which counts as failed. Each line says
+where the first error stands.
 """
 import concurrent.futures
 import glob
@@ -39,8 +39,8 @@ def check(name, folder, kept):
     """Checks the crate in a folder over what is kept from an earlier check; gives the exit status, what was said and the seconds."""
     words = [f"{OWN}/bin/rattle", "check", "--crate-name", name, f"{folder}/src/lib.rt", "--extern", f"std={OWN}/rlib/std.rlib"]
     for other in DEPENDENCIES[name]:
-        place = f"target/rlib/{other}.rlib" if os.path.isdir(f"crates/{other}") else f"{OWN}/rlib/{other}.rlib"
-        words += ["--extern", f"{other}={os.path.abspath(place)}"]
+        library = f"target/rlib/{other}.rlib" if os.path.isdir(f"crates/{other}") else f"{OWN}/rlib/{other}.rlib"
+        words += ["--extern", f"{other}={os.path.abspath(library)}"]
     words += ["-L", f"dependency={os.path.abspath('target/rlib')}", "-L", f"dependency={OWN}/rlib"]
     words += ["--antt-project", f"{KIT}/logic/antt-project.json", "--logic-built", f"{OWN}/logic-built", "--incremental", kept]
     began = time.time()
@@ -72,8 +72,8 @@ def try_edit(name, edit, work, seed):
     """Gives whether an edit is refused, and a line that says so."""
     label = f"{name}/{os.path.basename(edit)[:-5]}"
     folder, kept = f"{work}/edited", f"{work}/kept"
-    for place in (folder, kept):
-        shutil.rmtree(place, ignore_errors=True)
+    for path in (folder, kept):
+        shutil.rmtree(path, ignore_errors=True)
     for part in ("src", "specs", "proofs"):
         if os.path.isdir(f"crates/{name}/{part}"):
             shutil.copytree(f"crates/{name}/{part}", f"{folder}/{part}")
@@ -83,7 +83,7 @@ def try_edit(name, edit, work, seed):
         return False, f"edit {label}: BAD EDIT: {wrong}"
     status, said, seconds = check(name, folder, kept)
     if status == 1 and re.search(r"^logic=not-proved", said, re.M):
-        first = re.search(r"^(?:note: )?(\S+:\d+:\d+): ", said, re.M)
+        first = re.search(r"^(\S+:\d+:\d+): error", said, re.M)
         where = first.group(1).replace(folder + "/", "") if first else "?"
         return True, f"edit {label}: refused, as it must be (first at {where}; {seconds:.0f} s)"
     return False, f"edit {label}: NOT REFUSED (exit {status}; {seconds:.0f} s)"

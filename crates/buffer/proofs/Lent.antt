@@ -1,4 +1,4 @@
--- A writer that is lent the part of a buffer from a place on. `midOf` and `putMid` are what the checker calls a lent part, and the buffer with it
+-- A writer that is lent the part of a buffer from an offset on. `midOf` and `putMid` are what the checker calls a lent part, and the buffer with it
 -- put back.
 use mathlib.Core.Path.{_≡_, refl, sym, ap, subst, _∙_}
 use mathlib.Core.Bool.{cond}
@@ -14,7 +14,7 @@ use borrow.Rule.Slice.PartMut.{putMid, midOf}
 use Rattle.text.specs.Logic.{by-test, cond-cases}
 use Rattle.buffer.specs.Cursor.{Cursor, cursor, putByte, putText, Put, PutAll}
 
--- ---- a buffer stays as long as it is, and a place within it stays within it
+-- ---- a buffer stays as long as it is, and an offset within it stays within it
 
 abbrev Within : ℕ → Cursor → Type 0
 Within n (cursor d at) = (length d ≡ n) × (at ≤ n)

@@ -29,11 +29,11 @@ put-whole {d} {s} {e} {at} {k} p h =
     let w = rw append-assoc at (sets-eq s d at h) in
     (cc, cc)
 
--- from the front on, the place after it is its length
+-- from the front on, the next start is its length
 pub put-length : {d s e : List ℕ} {k : ℕ} → Put d 0 s e k → length s ≤ length d → k ≡ length s
 put-length {d} {s} {e} {k} p h = let w = put-whole p (omega arith) in omega arith
 
--- and it is what stands in front of that place
+-- and it is what stands before that offset
 pub put-take : {d s e : List ℕ} {k : ℕ} → Put d 0 s e k → length s ≤ length d → take k e ≡ s
 unfolding written
 put-take {d} {s} {e} {k} p h =

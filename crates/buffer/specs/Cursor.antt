@@ -6,7 +6,7 @@ use Prim.Native.Nat.{ℕ, _+_}
 use lib.Dec.{ltb}
 use lib.ListN.{length, set}
 
--- a buffer, and the place in it where the next byte goes
+-- a buffer, and the offset in it where the next byte goes
 pub data Cursor : Type 0 where
   cursor : List ℕ → ℕ → Cursor
 
@@ -24,7 +24,7 @@ abbrev pub putTexts : Cursor → List (List ℕ) → Cursor
 putTexts p [] = p
 putTexts p (s ∷ ss) = putTexts (putText p s) ss
 
--- a writer of s takes the buffer d from the place at to the buffer e, and r is the place after what it wrote
+-- a writer of s takes the buffer d from the offset at to the buffer e, and r is the next start
 pub record Put (d : List ℕ) (at : ℕ) (s e : List ℕ) (r : ℕ) : Type 0 where
   pub result : cursor e r ≡ putText (cursor d at) s
 

@@ -8,11 +8,11 @@ use lib.ListN.{length, take, drop}
 use Rattle.buffer.specs.declared.WriteText.{WriteText}
 use Rattle.buffer.specs.declared.WriteText.the-variants.{End, NoRoom}
 
--- d with s written over it from the place at
+-- d with s written over it from the offset at
 unfoldable pub written : List ℕ → ℕ → List ℕ → List ℕ
 written d at s = take at d ++ (s ++ drop (at + length s) d)
 
--- the text s has room in the buffer d from the place at
+-- the text s has room in the buffer d from the offset at
 abbrev pub hasRoom : List ℕ → ℕ → List ℕ → Bool
 hasRoom d at s = leb (at + length s) (length d)
 

@@ -9,7 +9,7 @@ pub enum WriteText {
     NoRoom,
 }
 
-// Writes as much of src as fits into dst from the place at on, and gives the place after it.
+// Writes as much of src as fits into dst from the offset at on, and gives the next start.
 pub fn put(dst: &mut [u8], at: usize, src: &[u8]) -> usize
     ensures { λ r. ⌜ Put (now (dst .entry)) at (now (src .entry)) (now (dst .exit)) r ⌝ }
 {

@@ -55,7 +55,7 @@ module _ (es : List Entry) (c : Checked) (s : Candidates) (e : s ≡ scanned (c 
   unfolding accepting carriedOut
   stored-is = rw (q, e, long)
 
-  -- a place past the entries: nothing is stored
+  -- an index past the entries: nothing is stored
   pub unstored-is : n ≤ p .at → outcome (p .receipt) es ≡ accepting c es
   unstored-is h = ap (outcome (p .receipt)) (sym (set-out es (p .at) (p .entry) (rw long h))) ∙ stored-is
 

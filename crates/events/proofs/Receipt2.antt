@@ -104,9 +104,9 @@ table-unchanged clock f es =
     (λ t. unchanged-or-accepted es _ NotAbove (ltb (getD es (indexOf (f .key) (f .event) es) blank .sequence) (f .sequence)))
     (λ t. unchanged-or-accepted es _ Full (ltb (freeIndex es) (length es)))
 
-heard-unchanged : (keys : List ℕ) (verdict : Bool) (clock : ℕ) (es : List Entry) (q : Packet) → Unchanged es (answered keys verdict clock es q)
-heard-unchanged keys verdict clock es (packet.Refused e) = λ n. refl
-heard-unchanged keys verdict clock es (packet.Alert f) =
+answered-unchanged : (keys : List ℕ) (verdict : Bool) (clock : ℕ) (es : List Entry) (q : Packet) → Unchanged es (answered keys verdict clock es q)
+answered-unchanged keys verdict clock es (packet.Refused e) = λ n. refl
+answered-unchanged keys verdict clock es (packet.Alert f) =
     cond-cases (Unchanged es) (isClockOutOfRange clock) _ _ (λ t n. refl)
     (λ t. cond-cases (Unchanged es) (not (isListed keys (f .key))) _ _ (λ t n. refl)
     (λ t. cond-cases (Unchanged es) (not verdict) _ _ (λ t n. refl)
@@ -115,7 +115,7 @@ heard-unchanged keys verdict clock es (packet.Alert f) =
 pub refusal-unchanged : (es : List Entry) (p keys : List ℕ) (verdict : Bool) (clock : ℕ)
     → (received es p keys verdict clock .receipt ≡ Accepted → ⊥) → received es p keys verdict clock .entries ≡ es
 unfolding received
-refusal-unchanged es p keys verdict clock = heard-unchanged keys verdict clock es (packetOf p)
+refusal-unchanged es p keys verdict clock = answered-unchanged keys verdict clock es (packetOf p)
 
 pub demand-2 : Demand2
 demand-2 = record {

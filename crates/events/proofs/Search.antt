@@ -17,7 +17,7 @@ use Rattle.events.specs.Table.{blank, firstIndex, isOf, isFree, isListed
 use Rattle.events.specs.Steps.{scanned, nextIndex, nextEntry, scanStep}
 use Rattle.events.specs.Demand2.{FirstAt}
 
--- ---- the first place
+-- ---- the first index
 
 module _ (f : Entry → Bool) where
   pub index-le : (es : List Entry) → firstIndex f es ≤ length es
@@ -25,7 +25,7 @@ module _ (f : Entry → Bool) where
   index-le [] = zero-le
   index-le (e ∷ es) = by-test (f e) (λ t. rw t zero-le) (λ t. rw t (suc-le-suc (index-le es)))
 
-  -- there is only one first place
+  -- there is only one first index
   pub index-is : (es : List Entry) (i : ℕ) → FirstAt f es i → firstIndex f es ≡ i
   unfolding firstIndex
   index-is [] i a = absurd (not-suc-le-zero (a .within))
@@ -100,7 +100,7 @@ module _ (key event : ℕ) (es : List Entry) where
   pub scanned-all : (i : ℕ) → length es ≤ i → (s : Candidates) → s ≡ scanned key event (take i es) → s ≡ scanned key event es
   scanned-all i h s a = a ∙ (rw (take-all i es h))
 
--- ---- the key list, from a place on
+-- ---- the key list, from an index on
 
 module _ (keys : List ℕ) (key i : ℕ) where
   pub listed-here : i < length keys → eqb (getD keys i 0) key ≡ true → isListed (drop i keys) key ≡ true

@@ -19,13 +19,13 @@ pub record Passes (p : List ℕ) (keys : List ℕ) (verdict : Bool) (clock : ℕ
   pub listed : isListed keys (f .key) ≡ true
   pub verified : verdict ≡ true
 
--- only the entry at place i differs, and it is e
+-- only the entry at index i differs, and it is e
 pub record OnlyAt (i : ℕ) (e : Entry) (before after : List Entry) : Type 0 where
   pub long : length after ≡ length before
   pub here : getD after i blank ≡ e
   pub elsewhere : (k : ℕ) → (k ≡ i → ⊥) → getD after k blank ≡ getD before k blank
 
--- place i holds the first entry that passes a test
+-- index i holds the first entry that passes a test
 pub record FirstAt (test : Entry → Bool) (es : List Entry) (i : ℕ) : Type 0 where
   pub within : i < length es
   pub passes : test (getD es i blank) ≡ true

@@ -39,11 +39,11 @@ checked keys verdict clock (packet.Alert f) = checkedFields keys verdict clock f
 
 -- ---- one pass over the entries
 
--- the first used entry of an event and its place, and the lowest free place; a place is the number of entries where there is none
+-- the first used entry of an event and its index, and the lowest free index; an index is the number of entries where there is none
 abbrev pub scanned : ℕ → ℕ → List Entry → Candidates
 scanned key event es = record { known = indexOf key event es; free = freeIndex es; entry = getD es (indexOf key event es) blank }
 
--- the first place that passes, from the one among i entries and whether the next entry passes; `next` where none does
+-- the first index that passes, from the one among i entries and whether the next entry passes; `next` where none does
 abbrev pub nextIndex : ℕ → ℕ → ℕ → Bool → ℕ
 nextIndex index i next hit = cond (ltb index i) index (cond hit i next)
 
@@ -57,7 +57,7 @@ scanStep s e i next key event = record {
   entry = nextEntry (s .known) i (isOf key event e) (s .entry) e;
 }
 
--- a place among n entries
+-- an index among n entries
 abbrev pub positionIn : ℕ → ℕ → Position
 positionIn k n = cond (ltb k n) (At k) Nowhere
 
@@ -77,7 +77,7 @@ merged e new = record {
 abbrev pub storing : ℕ → Entry → Plan
 storing i e = record { receipt = Accepted; at = i; entry = e }
 
--- a refusal stores nothing: its place is past the entries
+-- a refusal stores nothing: its index is past the entries
 abbrev pub refusing : ℕ → Receipt → Plan
 refusing n r = record { receipt = r; at = n; entry = blank }
 

@@ -27,7 +27,7 @@ isFree e = not (e .used)
 abbrev pub blank : Entry
 blank = record { used = false; key = 0; event = 0; sequence = 0; cancelled = false; «keep_until» = 0 }
 
--- the place of the first entry that passes a test, or the number of entries
+-- the index of the first entry that passes a test, or the number of entries
 unfoldable pub firstIndex : (Entry → Bool) → List Entry → ℕ
 firstIndex f [] = 0
 firstIndex f (e ∷ es) = cond (f e) 0 (suc (firstIndex f es))
@@ -75,14 +75,14 @@ pub record Outcome : Type 0 where
 abbrev pub outcome : Receipt → List Entry → Outcome
 outcome r es = record { receipt = r; entries = es }
 
--- an event with an entry at place i: 10 unless the number is above the stored one
+-- an event with an entry at index i: 10 unless the number is above the stored one
 unfoldable pub again : ℕ → Fields → List Entry → ℕ → Outcome
 again clock f es i =
     cond (ltb (getD es i blank .sequence) (f .sequence))
     (outcome Accepted (set es i (renewed clock f (getD es i blank))))
     (outcome NotAbove es)
 
--- an event without an entry, the lowest free one being at place i: 11 where there is none
+-- an event without an entry, the lowest free one being at index i: 11 where there is none
 unfoldable pub anew : ℕ → Fields → List Entry → ℕ → Outcome
 anew clock f es i = cond (ltb i (length es)) (outcome Accepted (set es i (fresh clock f))) (outcome Full es)
 

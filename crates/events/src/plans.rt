@@ -8,14 +8,14 @@ ghost use mathlib.Core.Path.{_≡_};
 ghost use mathlib.Core.List.{[]};
 ghost use Rattle.events.specs.Steps.{scanned, nextIndex, nextEntry, scanStep, positionIn, refusing, planned, decided};
 
-// An event's first used entry and its place, and the lowest free place. A place is the number of entries where there is none.
+// An event's first used entry and its index, and the lowest free index. An index is the number of entries where there is none.
 pub struct Candidates {
     pub known: usize,
     pub free: usize,
     pub entry: Entry,
 }
 
-// What a packet comes to: the answer, and an entry with its place. A place past the entries stores nothing.
+// What a packet comes to: the answer, and an entry with its index. An index past the entries stores nothing.
 pub struct Plan {
     pub receipt: Receipt,
     pub at: usize,
@@ -33,7 +33,7 @@ pub fn no_candidates() -> Candidates
     }
 }
 
-// The first place that passes, from the one among i entries and whether the next entry passes; `next` where none does.
+// The first index that passes, from the one among i entries and whether the next entry passes; `next` where none does.
 fn next_index(index: usize, i: usize, next: usize, hit: bool) -> usize
     ensures { λ r. ⌜ r ≡ nextIndex index i next hit ⌝ }
 {
@@ -46,7 +46,7 @@ fn next_index(index: usize, i: usize, next: usize, hit: bool) -> usize
     next
 }
 
-// The entry at that place.
+// The entry at that index.
 fn next_entry(index: usize, i: usize, hit: bool, old: Entry, entry: Entry) -> Entry
     ensures { λ r. ⌜ r ≡ nextEntry index i hit old entry ⌝ }
 {

@@ -10,11 +10,11 @@ fn print(text: &[u8]) {
     io::write_all(STDOUT_FILENO, text);
 }
 
-fn print_refusal(number: u64, place: u64) {
+fn print_refusal(number: u64, offset: u64) {
     print(b"refused ");
     io::print_decimal(STDOUT_FILENO, number);
     print(b" at ");
-    io::print_decimal(STDOUT_FILENO, place);
+    io::print_decimal(STDOUT_FILENO, offset);
     print(b"\n");
 }
 
@@ -33,7 +33,7 @@ fn print_part(document: &[u8], part: usize, place: Place) {
         CapPlace::NoShape => print(b"no shape\n"),
         CapPlace::NotThere => print_refusal(21, 0),
         CapPlace::OutOfRange => print_refusal(6, 0),
-        CapPlace::Refused(number, at) => print_refusal(number as u64, at as u64),
+        CapPlace::Refused(number, offset) => print_refusal(number as u64, offset as u64),
     }
 }
 

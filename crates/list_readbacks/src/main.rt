@@ -69,7 +69,7 @@ fn print_line(line: &[u8]) {
     }
 }
 
-// The place after the next newline, or the text's end.
+// The offset after the next newline, or the text's end.
 fn line_end(text: &[u8], at: usize) -> usize
     requires { ⌜ at ≤ length (now text) ⌝ }
     ensures { λ r. ⌜ (at ≤ r) × (r ≤ length (now (text .entry))) ⌝ }

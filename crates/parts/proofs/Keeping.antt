@@ -64,7 +64,7 @@ put first ss (opened c p) = ss
 put first ss (text c p t) = stored first c (spanOf p t) ss
 put first ss (closed c) = ss
 
--- a class at its place in the list
+-- a class at its index in the list
 module _ (first c : ℕ) (low : first ≤ c) (high : c - first < kept) where
   stored-length : (d : ℕ) (s : Span) (ss : List Span) → length ss ≡ kept → length (stored first d s ss) ≡ kept
   stored-length d s ss h =
@@ -98,7 +98,7 @@ module _ (first c : ℕ) (low : first ≤ c) (high : c - first < kept) where
       ∙ ap (λ (s : Span). fold (later c) s es) (stored-at d (spanOf p t) ss h)
   put-at ss (closed d ∷ es) h = put-at ss es h
 
-  -- from empty places on
+  -- from empty texts on
   empty-at : (es : List Element) → getD (fold (put first) (replicate kept nowhere) es) (c - first) nowhere ≡ textSpan es c
   empty-at es =
       put-at (replicate kept nowhere) es refl

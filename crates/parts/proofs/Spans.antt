@@ -47,7 +47,7 @@ fault-none : (b : ℕ) (m : List ℕ) → isFault (b ∷ m) ≡ false → starts
 unfolding isFault
 fault-none b m e = or-right (isControl b || (eqb b (code "&") && not (isReference (b ∷ m)))) (startsWith (ascii "]]>") (b ∷ m)) e
 
--- the front of a text, at none of whose places a fault stands
+-- the front of a text, at none of whose offsets a fault stands
 no-end : (n : ℕ) (m : List ℕ) → ((i : ℕ) → i < n → isFault (drop i m) ≡ false) → holdsCdataEnd (take n m) ≡ false
 unfolding holdsCdataEnd
 no-end zero m h = refl

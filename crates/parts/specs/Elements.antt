@@ -37,7 +37,7 @@ later c s (opened d p) = s
 later c s (text d p t) = cond (eqb d c) (spanOf p t) s
 later c s (closed d) = s
 
--- no text, at no place
+-- no text, at no offset
 abbrev pub nowhere : Span
 nowhere = record { start = 0; len = 0 }
 

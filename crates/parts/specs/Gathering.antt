@@ -54,7 +54,7 @@ noFacts = record { alert = replicate kept nowhere; part = replicate kept nowhere
 abbrev pub acceptedWith : ℕ → Facts → Reading
 acceptedWith total f = record { outcome = outcome.Accepted total; facts = f }
 
-abbrev pub refusedWith : (number place : ℕ) → Reading
+abbrev pub refusedWith : (number offset : ℕ) → Reading
 refusedWith k p = record { outcome = outcome.Refused k p; facts = noFacts }
 
 unfoldable pub readingOf : ℕ → List ℕ → Reading

@@ -13,7 +13,7 @@ mod lasting; // lasting.rt: how long a part lasts
 mod sheets; // sheets.rt: the sheet of a part
 mod texts; // texts.rt: where the texts of a sheet stand
 
-// How many classes, from a first one on, have the places of their texts kept.
+// How many classes, from a first one on, have the offsets of their texts kept.
 pub const KEPT: usize = 7;
 
 // Where the texts stand that a sheet is drawn from: those of the alert's own classes from identifier to scope, and those of the asked part's classes from
@@ -42,7 +42,7 @@ pub enum Lasts {
 }
 
 // The sheet of a part, with its sender and name as parts of the document; or why there is none: the part isn't there, its lasting time is out of range,
-// or the document is refused (number, place).
+// or the document is refused (number, offset).
 pub enum CapSheet {
     Sheet(CapFacts, Span, Span),
     NotThere,
@@ -50,7 +50,7 @@ pub enum CapSheet {
     Refused(u8, usize),
 }
 
-// Whether a part holds a place; or why there is no answer: the part isn't there, the place is out of range, or the document is refused (number, place).
+// Whether a part holds a place; or why there is no answer: the part isn't there, the place is out of range, or the document is refused (number, offset).
 pub enum CapPlace {
     Inside,
     Outside,
@@ -60,7 +60,7 @@ pub enum CapPlace {
     Refused(u8, usize),
 }
 
-// The number of parts of a document that was read to its end, or its refusal (number, place).
+// The number of parts of a document that was read to its end, or its refusal (number, offset).
 pub enum Outcome {
     Accepted(usize),
     Refused(u8, usize),
@@ -72,7 +72,7 @@ pub struct Reading {
     pub facts: Facts,
 }
 
-// The number of parts of a document and what was seen of its shapes, or its refusal (number, place).
+// The number of parts of a document and what was seen of its shapes, or its refusal (number, offset).
 pub enum View {
     Accepted(usize, Shapes),
     Refused(u8, usize),
@@ -102,7 +102,7 @@ pub fn cap_sheet(s: &[u8], part: usize) -> CapSheet
     let outcome = read.outcome;
     match outcome {
         Outcome::Accepted(total) => sheets::sheet_of_part(s, part, total, read.facts),
-        Outcome::Refused(number, place) => CapSheet::Refused(number, place),
+        Outcome::Refused(number, offset) => CapSheet::Refused(number, offset),
     }
 }
 
@@ -113,6 +113,6 @@ pub fn cap_place(s: &[u8], part: usize, place: Place) -> CapPlace
     let view = areas::read_shapes(s, part, place);
     match view {
         View::Accepted(total, f) => areas::placed_in_part(part, total, f, place),
-        View::Refused(number, at) => CapPlace::Refused(number, at),
+        View::Refused(number, offset) => CapPlace::Refused(number, offset),
     }
 }

@@ -45,7 +45,7 @@ fn note(s: &[u8], part: usize, infos: usize, f: Facts, event: Event) -> Facts
 {
     match event {
         Event::Silent => f,
-        Event::Opened(class, place) => f,
+        Event::Opened(class, offset) => f,
         Event::Text(class, from, until) => {
             let len = text::part(s, from, until).len();
             let span = Span {
@@ -64,11 +64,11 @@ fn note(s: &[u8], part: usize, infos: usize, f: Facts, event: Event) -> Facts
 }
 
 // The reading of a refused document.
-fn refused(number: u8, place: usize) -> Reading
-    ensures { λ r. ⌜ r ≡ refusedWith number place ⌝ }
+fn refused(number: u8, offset: usize) -> Reading
+    ensures { λ r. ⌜ r ≡ refusedWith number offset ⌝ }
 {
     Reading {
-        outcome: Outcome::Refused(number, place),
+        outcome: Outcome::Refused(number, offset),
         facts: no_facts(),
     }
 }
@@ -93,8 +93,8 @@ pub fn read_facts(s: &[u8], part: usize) -> Reading
                     facts: f,
                 };
             }
-            Step::Refused(number, place) => {
-                return refused(number, place);
+            Step::Refused(number, offset) => {
+                return refused(number, offset);
             }
         }
     }

@@ -63,7 +63,7 @@ fn put_parts(dst: &mut [u8], at: usize, parts: Parts) -> usize
     }
 }
 
-// Writes as much of the whole sentence as fits into dst from the place at on, and gives the place after it.
+// Writes as much of the whole sentence as fits into dst from the offset at on, and gives the next start.
 pub fn put_cap(dst: &mut [u8], at: usize, facts: CapFacts, sender: &[u8], name: &[u8]) -> usize
     ensures { λ r. ⌜ Put (now (dst .entry)) at (capText plain facts (now (sender .entry)) (now (name .entry))) (now (dst .exit)) r ⌝ }
 {

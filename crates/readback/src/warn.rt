@@ -49,7 +49,7 @@ fn put_hazard(dst: &mut [u8], at: usize, facts: WarnFacts) -> usize
     byte_field(dst, e, b", response", facts.response)
 }
 
-// Writes as much of the whole sentence as fits into dst from the place at on, and gives the place after it.
+// Writes as much of the whole sentence as fits into dst from the offset at on, and gives the next start.
 pub fn put_warn(dst: &mut [u8], at: usize, facts: WarnFacts) -> usize
     ensures { λ r. ⌜ Put (now (dst .entry)) at (warnText plain facts) (now (dst .exit)) r ⌝ }
 {

@@ -66,7 +66,7 @@ lines-le l (suc k) n =
 
 -- ---- the lines of `many` parts of l from the n-th on, written into the buffer d
 
--- those of k parts from the m-th on are left to write, into e from the place at on
+-- those of k parts from the m-th on are left to write, into e from the offset at on
 pub record Left (l d : List ℕ) (many n : ℕ) (e : List ℕ) (at m k : ℕ) : Type 0 where
   pub parts : m + k ≡ n + many
   pub text : putText (cursor e at) (linesFrom l k m) ≡ putText (cursor d 0) (linesFrom l many n)

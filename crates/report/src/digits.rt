@@ -8,7 +8,7 @@ ghost use Rattle.report.specs.Lines.{inDigits, refusalLine};
 // Enough for any number of 64 bits.
 const MOST_DIGITS: usize = 20;
 
-// Writes as much of a number in digits as fits into dst from the place at on, and gives the place after it. The last digit is found first.
+// Writes as much of a number in digits as fits into dst from the offset at on, and gives the next start. The last digit is found first.
 fn put_digits(dst: &mut [u8], at: usize, n: u64) -> usize
     ensures { λ r. ⌜ Put (now (dst .entry)) at (inDigits n) (now (dst .exit)) r ⌝ }
 {

@@ -10,7 +10,7 @@ ghost use Rattle.parts.specs.Sheets.{capSheet};
 ghost use Rattle.report.specs.Lines.{linesFrom};
 ghost use Rattle.report.specs.PartLine.{lineAt, isSentence};
 
-// A line that was written: the place after it, and whether it is a sentence, after which more lines come.
+// A line that was written: the next start, and whether it is a sentence, after which more lines come.
 pub struct Line {
     pub end: usize,
     pub more: bool,
@@ -41,7 +41,7 @@ fn put_line(dst: &mut [u8], at: usize, s: &[u8], part: usize) -> Line
     }
 }
 
-// Writes the lines of some parts over the front of dst, from the first part's to the first refusal, and gives the place after them.
+// Writes the lines of some parts over the front of dst, from the first part's to the first refusal, and gives the next start.
 pub fn put_lines(dst: &mut [u8], s: &[u8], first: usize, many: usize) -> usize
     requires { ⌜ (first ≤ 1) × (many ≤ 16) ⌝ }
     ensures { λ r. ⌜ Put (now (dst .entry)) 0 (linesFrom (now (s .entry)) many first) (now (dst .exit)) r ⌝ }

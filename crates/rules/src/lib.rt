@@ -3,26 +3,11 @@ use circle::Circle;
 use codes::list;
 use codes::texts::code_of;
 use schema::class;
-use sheet::ranges::is_name_byte;
+use sheet::ranges::all_name_bytes;
 use time::Time;
 ghost use mathlib.Core.Path.{_≡_};
-ghost use Rattle.sheet.specs.Sheet.{allNameBytes};
 ghost use Rattle.rules.specs.Codes.{listOf, hasCodes};
 ghost use Rattle.rules.specs.Texts.{nameRule, codeRule, timeRule, polygonRule, circleRule, isTime, textRule};
-
-// Whether sender and identifier may hold all bytes of a text.
-fn all_name_bytes(t: &[u8]) -> bool
-    ensures { λ r. ⌜ r ≡ allNameBytes (now (t .entry)) ⌝ }
-{
-    let mut i = 0;
-    while i < t.len() {
-        if !is_name_byte(t[i]) {
-            return false;
-        }
-        i += 1;
-    }
-    true
-}
 
 // The rule of sender and identifier.
 fn name_rule(t: &[u8]) -> u8

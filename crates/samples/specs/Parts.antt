@@ -96,7 +96,7 @@ double =
     (ascii "<area><areaDesc/><polygon>0,0 0,10 10,10 10,0 0,0</polygon><circle>20,20 1</circle></area>")
     ++ info [] [] ++ end
 
--- the sheet of alert's part, with the places of sender and name
+-- the sheet of alert's part, with the offsets of sender and name
 abbrev pub kiln : CapSheet
 kiln =
     drawn.Sheet

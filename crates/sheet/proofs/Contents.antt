@@ -53,9 +53,9 @@ module _ (i : ℕ) where
   contents-stop [] h e = absurd (omega arith)
   contents-stop (b ∷ l) h e = rw e
 
--- ---- the same by places of a text
+-- ---- the same by offsets of a text
 
--- the contents of the text t from the place i on
+-- the contents of the text t from the offset i on
 abbrev pub contentsAt : List ℕ → ℕ → Contents
 contentsAt t i = contentsFrom (length (drop i t)) i (drop i t)
 

@@ -23,7 +23,7 @@ use Rattle.sheet.proofs.Contents.{contents-on, contents-stop, contents-
 
 -- ---- texts of whole read-backs
 
--- what is found in the sentences of sheets, which stand at place i
+-- what is found in the sentences of sheets, which stand at offset i
 founds : ℕ → List Sheet → List Found
 founds i [] = []
 founds i (x ∷ xs) = foundAt i (sentence x ++ sentences xs) ∷ founds (i + length (sentence x)) xs
@@ -119,7 +119,7 @@ sentences-injective (x ∷ xs) (y ∷ ys) v w e =
 
 -- ---- any text
 
--- the text t, which stands at place i, stops after the sentences of front
+-- the text t, which stands at offset i, stops after the sentences of front
 record Stopped (i : ℕ) (t : List ℕ) : Type 0 where
   pub front : List Sheet
   pub rest : List ℕ

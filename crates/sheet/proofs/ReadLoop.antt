@@ -64,7 +64,7 @@ module _ (k n : ℕ) (f g : Found) where
       let j : k - (n + 1) ≡ 0 = omega arith in
       rw (m, ne-eqb k 0 (λ z. omega arith), lt-leb k n (omega arith), le-leb k (n + 1) (omega arith), j)
 
--- ---- the loop at the place i, with n read-backs after it
+-- ---- the loop at the offset i, with n read-backs after it
 
 module _ (t : List ℕ) (k : ℕ) where
   pub loop-start : (f : Found) → resumed k 0 f (contentsAt t 0) ≡ readBack t k

@@ -23,7 +23,7 @@ use Rattle.sheet.proofs.ReadWarn.{warn-read}
 
 -- ---- where the sender and the name stand
 
--- the rest of a text, by its place
+-- the rest of a text, by its offset
 pub record Rest (rest l : List ℕ) : Type 0 where
   pub from : ℕ
   pub is : rest ≡ drop from l
@@ -69,12 +69,12 @@ module _ (l : List ℕ) where
 -- ---- what is found, by the kind of its sheet
 
 module _ (i : ℕ) (t : List ℕ) where
-  -- a word that stands k bytes after the place i
+  -- a word that stands k bytes after the offset i
   span-at : (k : ℕ) (a : List ℕ) → drop k (drop i t) ≡ a → take (wordLength a) (drop (i + k) t) ≡ wordOf a
   unfolding wordOf
   span-at k a e = ap (take (wordLength a)) (sym (drop-drop k i t) ∙ e)
 
-  -- at any place of a text
+  -- at any offset of a text
   pub found-warn : startsWith (ascii "warn") (drop i t) ≡ true → sheetIn t (foundAt i (drop i t)) ≡ warn (warnOf (drop i t))
   unfolding foundAt sheetIn
   found-warn e = rw e
@@ -97,7 +97,7 @@ pub sheet-cap : (l : List ℕ) → startsWith (ascii "warn") l ≡ false → she
 unfolding sheetOf
 sheet-cap l e = found-cap 0 l e
 
--- what stands at a place of a text is the sheet of the text from there on
+-- what stands at an offset of a text is the sheet of the text from there on
 pub found-at : (i : ℕ) (t : List ℕ) → sheetIn t (foundAt i (drop i t)) ≡ sheetOf (drop i t)
 found-at i t =
     let l = drop i t in

@@ -85,10 +85,6 @@ module _ (d : List ℕ) (at : ℕ) (x : Sheet) where
   unfolding writeSheet after isWritable
   refuse-range e = (rw e, rw e)
 
-  pub refuse-room : inRange x ≡ true → length d < at + length (sentence x) → (writeSheet d at x ≡ NoRoom) × (after d at x ≡ d)
-  unfolding writeSheet after isWritable
-  refuse-room e h = let r = lt-leb (at + length (sentence x)) (length d) h in (rw (e, r), rw (e, r))
-
   pub write-end :
       inRange x ≡ true → at + length (sentence x) ≤ length d
       → (writeSheet d at x ≡ End (at + length (sentence x))) × (after d at x ≡ written d at (sentence x))

@@ -35,7 +35,7 @@ hasRoom d at x = leb (at + length (sentence x)) (length d)
 unfoldable pub isWritable : List ℕ → ℕ → Sheet → Bool
 isWritable d at x = inRange x && hasRoom d at x
 
--- the answer to writing the sheet x into the buffer d from the place at
+-- the answer to writing the sheet x into the buffer d from the offset at
 unfoldable pub writeSheet : List ℕ → ℕ → Sheet → WriteSheet
 writeSheet d at x = cond (inRange x) (cond (hasRoom d at x) (End (at + length (sentence x))) NoRoom) OutOfRange
 
@@ -64,7 +64,7 @@ followedBy f (stops p) = stops p
 unfoldable pub lineLength : List ℕ → ℕ
 lineLength l = length (sentence (sheetOf l))
 
--- the contents of the text l, which stands at place i; n bounds the number of its lines
+-- the contents of the text l, which stands at offset i; n bounds the number of its lines
 unfoldable pub contentsFrom : ℕ → ℕ → List ℕ → Contents
 contentsFrom zero i [] = sheets []
 contentsFrom zero i (b ∷ l) = stops i

@@ -213,11 +213,11 @@ warnOf l = record {
 
 -- ---- a line
 
--- the word that leads the rest of a text, which stands at place i
+-- the word that leads the rest of a text, which stands at offset i
 abbrev pub spanAt : ℕ → List ℕ → List ℕ → Span
 spanAt i l rest = record { start = i + indexIn l rest; len = wordLength rest }
 
--- what a text that stands at place i says, as far as it can be read
+-- what a text that stands at offset i says, as far as it can be read
 unfoldable pub foundAt : ℕ → List ℕ → Found
 foundAt i l =
     cond (startsWith (ascii "warn") l)

@@ -71,7 +71,7 @@ pub enum Found {
     Warn(WarnFacts),
 }
 
-// What stands at a place of a text: a read-back with its sheet and its length, or something else.
+// What stands at an offset of a text: a read-back with its sheet and its length, or something else.
 pub enum Line {
     Sentence(Found, usize),
     Other,

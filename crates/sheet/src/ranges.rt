@@ -10,7 +10,7 @@ ghost use Rattle.text.specs.Ascii.{ascii};
 ghost use Rattle.text.specs.Parts.{startsWith};
 ghost use Rattle.words.specs.Duration.{isLasting};
 ghost use Rattle.sheet.specs.declared.Parts.the-variants.{OnePart};
-ghost use Rattle.sheet.specs.Sheet.{cap, warn, isNameByte, isName, isLastingTime, isParts, inRange};
+ghost use Rattle.sheet.specs.Sheet.{cap, warn, isNameByte, allNameBytes, holdsCdataEnd, isName, isLastingTime, isParts, inRange};
 
 // The longest lasting time, in seconds: 365 days.
 const LONGEST: u64 = 31_536_000;
@@ -22,11 +22,39 @@ pub fn is_name_byte(b: u8) -> bool
     (0x20 < b) & (b != b',') & (b != b'<') & (b != b'&')
 }
 
-// Whether "]]>" stands at a place.
+// Whether sender and name may hold all bytes of a text.
+pub fn all_name_bytes(s: &[u8]) -> bool
+    ensures { λ r. ⌜ r ≡ allNameBytes (now (s .entry)) ⌝ }
+{
+    let mut i = 0;
+    while i < s.len() {
+        if !is_name_byte(s[i]) {
+            return false;
+        }
+        i += 1;
+    }
+    true
+}
+
+// Whether "]]>" stands at an offset.
 fn is_cdata_end(s: &[u8], at: usize) -> bool
     ensures { λ r. ⌜ r ≡ startsWith (ascii "]]>") (drop at (now (s .entry))) ⌝ }
 {
     text::starts_at(s, at, b"]]>")
+}
+
+// Whether "]]>" stands somewhere in a text.
+fn holds_cdata_end(s: &[u8]) -> bool
+    ensures { λ r. ⌜ r ≡ holdsCdataEnd (now (s .entry)) ⌝ }
+{
+    let mut i = 0;
+    while i < s.len() {
+        if is_cdata_end(s, i) {
+            return true;
+        }
+        i += 1;
+    }
+    false
 }
 
 // Whether a text can be a sender or a name.
@@ -39,17 +67,7 @@ pub fn is_name(s: &[u8]) -> bool
     if 128 < s.len() {
         return false;
     }
-    let mut i = 0;
-    while i < s.len() {
-        if !is_name_byte(s[i]) {
-            return false;
-        }
-        if is_cdata_end(s, i) {
-            return false;
-        }
-        i += 1;
-    }
-    true
+    all_name_bytes(s) & !holds_cdata_end(s)
 }
 
 // Whether a number of seconds is a lasting time.

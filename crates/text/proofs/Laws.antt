@@ -12,9 +12,6 @@ use Rattle.text.specs.Tokens.{onToken, longer, tokens, tokenLength}
 use Rattle.text.specs.Logic.{by-test}
 use Rattle.text.proofs.Runs.{run-on, run-le, run-within}
 
-pub spaces-on : (s : List ℕ) (i : ℕ) → i < length s → isSpace (getD s i 0) ≡ true → i + spaces (drop i s) ≡ i + 1 + spaces (drop (i + 1) s)
-spaces-on s i h e = sym (run-on isSpace s i _ refl h refl e)
-
 pub spaces-le : (l : List ℕ) → spaces l ≤ length l
 spaces-le = run-le isSpace
 

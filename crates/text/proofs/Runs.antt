@@ -11,11 +11,11 @@ use lib.Seq.{drop-cons, drop-drop, getD-drop, length-take-le}
 use Rattle.text.specs.Bytes.{leading, ledBy}
 use Rattle.text.specs.Logic.{by-test, and-comm}
 
--- what stands at a place, by its first byte
+-- what stands at an offset, by its first byte
 pub drop-next : (s : List ℕ) (i : ℕ) → i < length s → drop i s ≡ getD s i 0 ∷ drop (i + 1) s
 drop-next s i h = rw (add-one i) (drop-cons s i 0 h)
 
--- the byte at a place leads what stands there
+-- the byte at an offset leads what stands there
 pub led-is : (p : ℕ → Bool) (s : List ℕ) (i : ℕ) {t : Bool} → i < length s → t ≡ p (getD s i 0) → t ≡ ledBy p (drop i s)
 led-is p s i h q = rw (drop-next s i h) q
 
@@ -37,7 +37,7 @@ pub run-le : (p : ℕ → Bool) (l : List ℕ) → leading p l ≤ length l
 run-le p [] = zero-le
 run-le p (b ∷ l) = by-test (p b) (λ e. rw e (suc-le-suc (run-le p l))) (λ e. rw e zero-le)
 
--- a run from a place of a list ends within it
+-- a run from an offset of a list ends within it
 pub run-within : (p : ℕ → Bool) (s : List ℕ) (i : ℕ) → i ≤ length s → i + leading p (drop i s) ≤ length s
 run-within p s i h = omega (arith, run-le p (drop i s), length-drop i s)
 

@@ -111,7 +111,7 @@ fn print_shape(kind: u8, case: &[u8]) {
     print_inclusion_in(kind, after(case, comma), place);
 }
 
-// What stands after a place of a text.
+// What stands after an offset of a text.
 fn after(s: &[u8], at: usize) -> &[u8] {
     if at < s.len() {
         return &s[at + 1..];
@@ -150,7 +150,7 @@ fn print_case(kind: u8, text: &[u8]) {
     print(b"\n");
 }
 
-// The first place from `from` on that holds the byte, or the end.
+// The first offset from `from` on that holds the byte, or the end.
 fn find(s: &[u8], from: usize, byte: u8) -> usize
     requires { ⌜ from ≤ length (now s) ⌝ }
     ensures { λ r. ⌜ (from ≤ r) × (r ≤ length (now (s .entry))) ⌝ }
@@ -165,7 +165,7 @@ fn find(s: &[u8], from: usize, byte: u8) -> usize
     i
 }
 
-// The place after the '#' at a place and the line feed after it.
+// The offset after the '#' at an offset and the line feed after it.
 fn next_start(input: &[u8], end: usize) -> usize
     requires { ⌜ end ≤ length (now input) ⌝ }
     ensures { λ r. ⌜ end ≤ r ⌝ }

@@ -1,4 +1,4 @@
--- What a walk by hand names of the program logic, in one place.
+-- What a walk by hand names of the program logic, in one file.
 pub use mathlib.Core.Path.{_≡_, refl, sym, ap, subst, _∙_}
 pub use Prim.Native.Nat.{ℕ, _+_, _*_, _<_, _≤_, _^_}
 pub use mathlib.Core.Bool.{Bool, true, false}

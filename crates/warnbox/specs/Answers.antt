@@ -1,5 +1,5 @@
--- What the functions for C give back: a refusal's number, 0 for none; and with it a value, which is a refusal's place or else what the function tells.
--- Numbers and places are those that each answer's own definition gives.
+-- What the functions for C give back: a refusal's number, 0 for none; and with it a value, which is a refusal's offset or else what the function tells.
+-- Numbers and offsets are those that each answer's own definition gives.
 use Prim.Native.Nat.{ℕ}
 use Rattle.sheet.specs.declared.WriteSheet.{WriteSheet}
 use Rattle.sheet.specs.declared.WriteSheet.the-variants as write
@@ -56,7 +56,7 @@ capPlaceValue (cap.Refused n p) = refusalOffset (cap.Refused n p)
 abbrev pub capPlaceAnswer : CapPlace → Answer
 capPlaceAnswer x = record { number = parts.placeNumber x; value = capPlaceValue x }
 
--- 0 outside, 1 inside; every refusal's place is 0
+-- 0 outside, 1 inside; every refusal's offset is 0
 abbrev pub packetPlaceValue : PacketPlace → ℕ
 packetPlaceValue packet.Outside = 0
 packetPlaceValue packet.Inside = 1

@@ -21,7 +21,7 @@ use Rattle.sheet.specs.declared.Found.the-variants as found
 use Rattle.codes.specs.Values.{messageAt, statusAt, scopeAt, urgencyAt, severityAt, certaintyAt}
 use Rattle.codes.specs.Values.{messageNumber, statusNumber, scopeNumber, urgencyNumber, severityNumber, certaintyNumber}
 
--- the number at a place
+-- the number at an index
 abbrev pub at : List ℕ → ℕ → ℕ
 at n i = getD n i 0
 

@@ -20,7 +20,7 @@ use Rattle.warnbox.specs.declared.Answer.{Answer}
 use Rattle.warnbox.specs.Answers.{refused, writeAnswer}
 use Rattle.warnbox.specs.Numbers.{areCap, capFrom, senderFrom, nameFrom, areWarn, warnFrom, numbersOf}
 
--- ---- the sentence of a part of the document l, into the buffer d from a place on; d is what it held before
+-- ---- the sentence of a part of the document l, into the buffer d from an offset on; d is what it held before
 
 abbrev pub partSentence : List ℕ → ℕ → List ℕ → CapSheet → Answer
 partSentence d start l (drawn.Sheet f sender name) = writeAnswer (writeSheet d start (cap f (spanIn l sender) (spanIn l name)))

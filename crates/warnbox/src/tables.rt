@@ -54,7 +54,7 @@ pub fn accept(entries: &mut [Entry], checked: Checked) -> Receipt
     plan.receipt
 }
 
-// A packet is received. `verdict` is the signature chip's, `keys` are the key ids that are listened to; every refusal's place is 0.
+// A packet is received. `verdict` is the signature chip's, `keys` are the key ids that are listened to; every refusal's offset is 0.
 #[no_mangle]
 pub extern "C" fn warnbox_receive(
     entries: &mut [Entry],

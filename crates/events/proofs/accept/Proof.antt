@@ -1,4 +1,4 @@
--- `accept`: the plan is stored, or its place is past the entries and nothing is.
+-- `accept`: the plan is stored, or its index is past the entries and nothing is.
 use lib.ListN.{length, length-map}
 use mathlib.Core.Path.{_≡_, ap}
 use Rattle.events.specs.Steps.{ofOutcome}

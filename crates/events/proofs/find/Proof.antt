@@ -1,4 +1,4 @@
--- `find`: the pass finds the place, which is below 64 exactly if there is one.
+-- `find`: the pass finds the index, which is below 64 exactly if there is one.
 use mathlib.Core.Path.{_≡_, _∙_}
 use lib.ListN.{length, length-map}
 use Rattle.events.proofs.Outcomes.{position-is}

@@ -1,4 +1,4 @@
--- `scan`: the invariant says that `places` is what is found among the first i entries.
+-- `scan`: the invariant says that `found` is what is found among the first i entries.
 use Rattle.events.proofs.Search.{scanned-next}
 use mathlib.Core.Path.{_≡_, _∙_}
 use Prim.Native.Nat.{_≤_, _-_, _<_}
@@ -10,10 +10,10 @@ use Rattle.events.proofs.scan.Statement.{statement}
 use Rattle.events.proofs.scan.Tie as tie
 
 abbrev Inv-loop : tie.InvT-loop
-Inv-loop key event table places₀ i₀ found i = (i ≤ 64) × (found ≡ scanned key event (take i (table .entries)))
+Inv-loop key event table found₀ i₀ found i = (i ≤ 64) × (found ≡ scanned key event (take i (table .entries)))
 
 abbrev μ-loop : tie.MeasureT-loop
-μ-loop key event table places₀ i₀ found i = 64 - i
+μ-loop key event table found₀ i₀ found i = 64 - i
 
 long : (s : tie.Start Inv-loop μ-loop) → length (s .args .t1 .entries) ≡ 64
 long s = simp length-map at (s .good .0 .1 .1 .0 .1 .0 .1)

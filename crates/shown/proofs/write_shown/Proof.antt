@@ -10,7 +10,7 @@ use Rattle.sheet.specs.Answers.{writeSheet, after}
 use Rattle.shown.proofs.write_shown.Tie as tie
 use Rattle.shown.proofs.write_shown.Statement.{statement}
 
--- what is told of a sheet is told of the one with an equal sender and an equal name
+-- what holds of a sheet holds of the one with an equal sender and an equal name
 said-same : {A : Type 0} (tell : Sheet → A) (f : CapFacts) {r : A} {s t n m : List ℕ} → r ≡ tell (cap f s n) → s ≡ t → n ≡ m → r ≡ tell (cap f t m)
 said-same tell f e p q = e ∙ (λ i. tell (cap f (p i) (q i)))
 

@@ -1,4 +1,4 @@
--- `plans::next_place`: by the two tests.
+-- `plans::next_index`: by the two tests.
 use borrow.Author.Tests.{lt-ltb, le-ltb}
 use Rattle.events.proofs.plans.next_index.Statement.{statement}
 use Rattle.events.proofs.plans.next_index.Tie as tie

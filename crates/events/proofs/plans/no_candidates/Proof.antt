@@ -1,4 +1,4 @@
--- `plans::no_places`: both places among no entries are 0.
+-- `plans::no_candidates`: both indices among no entries are 0.
 use Rattle.events.specs.Table.{firstIndex}
 use borrow.Author.Needs.{needs}
 use Rattle.events.proofs.plans.no_candidates.Statement.{statement}

@@ -1,4 +1,4 @@
--- Before each turn the lines of the parts that are left, written from the place reached on, make the whole.
+-- Before each turn the lines of the parts that are left, written from the next start on, make the whole.
 use mathlib.Core.Path.{_≡_, refl, sym, _∙_}
 use native.Mathlib.Omega.{arith}
 use lib.ListN.{length}

@@ -1,5 +1,5 @@
 -- `accept` meets its contract: a walk of its MIR, by hand. The slice is opened once, and its entries are lent for the call of `scan`. `decide` says
--- what is stored and where; where that place is one of the entries it is stored, and the slice is closed.
+-- what is stored and where; where that index is one of the entries it is stored, and the slice is closed.
 -- Assumes nothing.
 use Rattle.walks.proofs.Walk.{_≡_, refl, sym, ap, _∷_, [], ℕ, _*_, _<_, List, length, set, URA, fullShare, named, w32, w64, Val, Fits, vint, SProp}
 use Rattle.walks.proofs.Walk.{emp, id⊢, Memory, Routine, Heap, WpFn, Tables, Atoms}

@@ -5,16 +5,16 @@ use native.Mathlib.Omega.{arith}
 use lib.ListN.{length, drop}
 use borrow.Author.Tests.{not-true, not-false}
 use borrow.Author.Needs.{needs}
 use Rattle.sheet.specs.Sheet.{allNameBytes}
-use Rattle.rules.proofs.Cases.{name-byte, not-name-byte, name-end}
-use Rattle.rules.proofs.all_name_bytes.Statement.{statement}
-use Rattle.rules.proofs.all_name_bytes.Tie as tie
+use Rattle.sheet.proofs.Names.{name-byte, not-name-byte, name-end}
+use Rattle.sheet.proofs.ranges.all_name_bytes.Statement.{statement}
+use Rattle.sheet.proofs.ranges.all_name_bytes.Tie as tie
 
 abbrev Inv-loop : tie.InvT-loop
-Inv-loop t i₀ i = allNameBytes (drop i t) ≡ allNameBytes t
+Inv-loop s i₀ i = allNameBytes (drop i s) ≡ allNameBytes s
 
 abbrev μ-loop : tie.MeasureT-loop
-μ-loop t i₀ i = length t - i
+μ-loop s i₀ i = length s - i
 
 returns : tie.Need-returns Inv-loop μ-loop
 returns c =
