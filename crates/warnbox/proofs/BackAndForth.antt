@@ -27,7 +27,6 @@ use Rattle.warnbox.specs.Numbers.{isFlag, arePart, areCap, lastingFrom, 
 use Rattle.warnbox.specs.Numbers.{statedOf, secondsOf, numbersOfNone, numbersOfPart, withParts, capNumbers, warnNumbers}
 use Rattle.warnbox.proofs.Tests.{joined-at}
 use Rattle.warnbox.proofs.Flags.{flag-is, flag-back}
-use Rattle.warnbox.proofs.CodeNumbers.{message-is, status-is, scope-is, urgency-is, severity-is, certainty-is}
 
 -- ---- CAP
 
@@ -64,19 +63,19 @@ lasting-back (Seconds s) = refl
 module _ (x : MessageType) (y : Status) (z : Scope) (sender name : Span) where
   parts-are : (p : Parts) → fitsNumbers p ≡ true → areCap (withParts (messageNumber x) (statusNumber y) (scopeNumber z) sender name p) ≡ true
   unfolding areCap arePart numbersOfNone numbersOfPart
-  parts-are NoPart e = rw (message-is x, status-is y, scope-is z)
+  parts-are NoPart e = rw (message-numbers x .listed, status-numbers y .listed, scope-numbers z .listed)
   parts-are (OnePart p) e =
       let t = part-tests p e in
       rw (
-        message-is x,
-        status-is y,
-        scope-is z,
+        message-numbers x .listed,
+        status-numbers y .listed,
+        scope-numbers z .listed,
         t .0,
         t .1,
         t .2,
-        urgency-is (p .urgency),
-        severity-is (p .severity),
-        certainty-is (p .certainty),
+        urgency-numbers (p .urgency) .listed,
+        severity-numbers (p .severity) .listed,
+        certainty-numbers (p .certainty) .listed,
         stated-is (p .lasting),
         t .3,
       )

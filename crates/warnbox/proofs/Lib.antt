@@ -1,6 +1,5 @@
 pub mod Tests
 pub mod Flags
-pub mod CodeNumbers
 pub mod BackAndForth
 pub mod Pairs
 pub mod Places

@@ -7,7 +7,9 @@ use lib.Dec.{eqb, ltb}
 use lib.ListN.{getD}
 use borrow.Author.Tests.{ltb-true}
 use Rattle.text.specs.Logic.{and-left, and-right}
-use Rattle.warnbox.specs.Numbers.{at, isCode, isFlag, hasNoPart, arePart, areCap, areWarn}
+use Rattle.codes.specs.Lists as list
+use Rattle.codes.specs.Lists.{isNumber}
+use Rattle.warnbox.specs.Numbers.{at, isFlag, hasNoPart, arePart, areCap, areWarn}
 
 -- ---- many tests, one after the other
 
@@ -39,8 +41,8 @@ unfolding arePart
 part-width n e =
     let passed =
     joined-at true
-    (ltb (at n 4) 0x100 ∷ ltb (at n 5) 0x100 ∷ isCode 5 (at n 6) ∷ isCode 5 (at n 7) ∷ isCode 5 (at n 8)
-    ∷ isFlag (at n 9) ∷ ltb (at n 10) 0x1_0000_0000 ∷ [])
+    (ltb (at n 4) 0x100 ∷ ltb (at n 5) 0x100 ∷ isNumber list.urgency (at n 6) ∷ isNumber list.severity (at n 7)
+    ∷ isNumber list.certainty (at n 8) ∷ isFlag (at n 9) ∷ ltb (at n 10) 0x1_0000_0000 ∷ [])
     e
     in
     record {
@@ -53,7 +55,9 @@ part-width n e =
 pub part-there : (n : List ℕ) → areCap n ≡ true → hasNoPart n ≡ false → arePart n ≡ true
 unfolding areCap
 part-there n e h =
-    rw h at (and-right (eqb (at n 0) 1 && isCode 5 (at n 1) && isCode 5 (at n 2) && isCode 3 (at n 3)) (hasNoPart n || arePart n) e)
+    rw h at
+    (and-right (eqb (at n 0) 1 && isNumber list.msgType (at n 1) && isNumber list.status (at n 2) && isNumber list.scope (at n 3))
+    (hasNoPart n || arePart n) e)
 
 -- ---- a WARN sheet
 

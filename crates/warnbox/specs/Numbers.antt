@@ -18,6 +18,8 @@ use Rattle.sheet.specs.declared.WarnFacts.{WarnFacts}
 use Rattle.sheet.specs.declared.Span.{Span}
 use Rattle.sheet.specs.declared.Found.{Found}
 use Rattle.sheet.specs.declared.Found.the-variants as found
+use Rattle.codes.specs.Lists as list
+use Rattle.codes.specs.Lists.{isNumber}
 use Rattle.codes.specs.Values.{messageAt, statusAt, scopeAt, urgencyAt, severityAt, certaintyAt}
 use Rattle.codes.specs.Values.{messageNumber, statusNumber, scopeNumber, urgencyNumber, severityNumber, certaintyNumber}
 
@@ -26,10 +28,6 @@ abbrev pub at : List ℕ → ℕ → ℕ
 at n i = getD n i 0
 
 -- ---- what numbers say
-
--- a code's number in a list of m codes
-abbrev pub isCode : ℕ → ℕ → Bool
-isCode m k = leb 1 k && leb k m
 
 abbrev pub isFlag : ℕ → Bool
 isFlag k = leb k 1
@@ -40,12 +38,13 @@ hasNoPart n = eqb (at n 4) 0 && eqb (at n 5) 0
 
 unfoldable pub arePart : List ℕ → Bool
 arePart n =
-    ltb (at n 4) 0x100 && ltb (at n 5) 0x100 && isCode 5 (at n 6) && isCode 5 (at n 7) && isCode 5 (at n 8)
-    && isFlag (at n 9) && ltb (at n 10) 0x1_0000_0000
+    ltb (at n 4) 0x100 && ltb (at n 5) 0x100 && isNumber list.urgency (at n 6) && isNumber list.severity (at n 7)
+    && isNumber list.certainty (at n 8) && isFlag (at n 9) && ltb (at n 10) 0x1_0000_0000
 
 -- numbers that stand for a CAP sheet, in range or not
 unfoldable pub areCap : List ℕ → Bool
-areCap n = eqb (at n 0) 1 && isCode 5 (at n 1) && isCode 5 (at n 2) && isCode 3 (at n 3) && (hasNoPart n || arePart n)
+areCap n =
+    eqb (at n 0) 1 && isNumber list.msgType (at n 1) && isNumber list.status (at n 2) && isNumber list.scope (at n 3) && (hasNoPart n || arePart n)
 
 abbrev pub lastingFrom : ℕ → ℕ → Lasting
 lastingFrom stated seconds = cond (eqb stated 1) (Seconds seconds) Unstated

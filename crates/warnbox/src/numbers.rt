@@ -1,4 +1,6 @@
 // Sheets as numbers: what each of the 15 stands for is in include/warnbox.h and in specs/Numbers.antt.
+use codes::list;
+use codes::texts::is_number;
 use codes::values;
 use sheet::CapFacts;
 use sheet::Found;
@@ -10,15 +12,17 @@ use sheet::WarnFacts;
 ghost use mathlib.Core.Path.{_≡_};
 ghost use mathlib.Core.Bool.{true, cond};
 ghost use Prim.Native.Nat.{_<_};
-ghost use Rattle.warnbox.specs.Numbers.{isCode, isFlag, hasNoPart, arePart, areCap, lastingFrom, partFrom, capFrom, senderFrom, nameFrom};
+ghost use Rattle.codes.specs.Lists.{isNumber};
+ghost use Rattle.warnbox.specs.Numbers.{isFlag, hasNoPart, arePart, areCap, lastingFrom, partFrom, capFrom, senderFrom, nameFrom};
 ghost use Rattle.warnbox.specs.Numbers.{areWarn, warnFrom, statedOf, secondsOf, numbersOfNone, numbersOfPart, capNumbers, warnNumbers, numbersOf};
 
 // ---- what numbers say
 
-fn is_code(many: u64, k: u64) -> bool
-    ensures { λ r. ⌜ r ≡ isCode many k ⌝ }
+// Whether a list of codes has a number.
+fn is_code(list: usize, k: u64) -> bool
+    ensures { λ r. ⌜ r ≡ isNumber list k ⌝ }
 {
-    (1 <= k) & (k <= many)
+    is_number(list, k as usize)
 }
 
 fn is_flag(k: u64) -> bool
@@ -40,9 +44,9 @@ fn are_part(n: &[u64; 15]) -> bool
 {
     (n[4] < 0x100)
         & (n[5] < 0x100)
-        & is_code(5, n[6])
-        & is_code(5, n[7])
-        & is_code(5, n[8])
+        & is_code(list::URGENCY, n[6])
+        & is_code(list::SEVERITY, n[7])
+        & is_code(list::CERTAINTY, n[8])
         & is_flag(n[9])
         & (n[10] < 0x1_0000_0000)
 }
@@ -52,9 +56,9 @@ pub fn are_cap(n: &[u64; 15]) -> bool
     ensures { λ r. ⌜ r ≡ areCap (now (n .entry)) ⌝ }
 {
     (n[0] == 1)
-        & is_code(5, n[1])
-        & is_code(5, n[2])
-        & is_code(3, n[3])
+        & is_code(list::MSG_TYPE, n[1])
+        & is_code(list::STATUS, n[2])
+        & is_code(list::SCOPE, n[3])
         & (has_no_part(n) | are_part(n))
 }
 
