@@ -23,7 +23,9 @@ use Rattle.events.specs.Steps.{stopped, passing, checkedFields, checked,
 
 -- ---- where an event stands
 
-pub position-is : (key event : ℕ) (es : List Entry) (s : Candidates) → s ≡ scanned key event es → (n : ℕ) → length es ≡ n → positionIn (s .known) n ≡ positionOf key event es
+pub position-is :
+    (key event : ℕ) (es : List Entry) (s : Candidates) → s ≡ scanned key event es → (n : ℕ) → length es ≡ n → positionIn (s .known) n
+    ≡ positionOf key event es
 unfolding positionOf
 position-is key event es s e n long = rw (long, e)
 
@@ -43,14 +45,16 @@ unfolding accepting planned tableOutcome again anew
 accepting-is clock f es =
     carried-cases es (indexOf (f .key) (f .event) es) (freeIndex es)
     (renewed clock f (getD es (indexOf (f .key) (f .event) es) blank)) (fresh clock f)
-    (ltb (indexOf (f .key) (f .event) es) (length es)) (ltb (getD es (indexOf (f .key) (f .event) es) blank .sequence) (f .sequence)) (ltb (freeIndex es) (length es))
+    (ltb (indexOf (f .key) (f .event) es) (length es)) (ltb (getD es (indexOf (f .key) (f .event) es) blank .sequence) (f .sequence))
+    (ltb (freeIndex es) (length es))
 
 -- a packet that is refused leaves the entries
 stopped-is : (r : Receipt) (es : List Entry) → accepting (stopped r) es ≡ outcome r es
 unfolding accepting carriedOut
 stopped-is r es = ap (outcome r) (set-out es (length es) blank (le-refl (length es)))
 
-module _ (es : List Entry) (c : Checked) (s : Candidates) (e : s ≡ scanned (c .entry .key) (c .entry .event) es) (n : ℕ) (long : length es ≡ n) (p : Plan) (q : p ≡ decided s n c) where
+module _ (es : List Entry) (c : Checked) (s : Candidates) (e : s ≡ scanned (c .entry .key) (c .entry .event) es) (n : ℕ) (long : length es ≡ n)
+    (p : Plan) (q : p ≡ decided s n c) where
   pub stored-is : outcome (p .receipt) (set es (p .at) (p .entry)) ≡ accepting c es
   unfolding accepting carriedOut
   stored-is = rw (q, e, long)
@@ -62,16 +66,20 @@ module _ (es : List Entry) (c : Checked) (s : Candidates) (e : s ≡ scanned (c 
 -- ---- the checks
 
 module _ (keys : List ℕ) (verdict : Bool) (clock : ℕ) where
-  pub refused-is : (q r : Packet) → q ≡ r → (e : Fault) → q ≡ packet.Refused e → (x : Checked) → x ≡ stopped (Refused e) → x ≡ checked keys verdict clock r
+  pub refused-is :
+      (q r : Packet) → q ≡ r → (e : Fault) → q ≡ packet.Refused e → (x : Checked) → x ≡ stopped (Refused e) → x ≡ checked keys verdict clock r
   refused-is q r a e b x c = rw (← a, b) c
 
-  pub checked-is : (q r : Packet) → q ≡ r → (f : Fields) → q ≡ packet.Alert f → (x : Checked) → x ≡ checkedFields keys verdict clock f → x ≡ checked keys verdict clock r
+  pub checked-is :
+      (q r : Packet) → q ≡ r → (f : Fields) → q ≡ packet.Alert f → (x : Checked) → x ≡ checkedFields keys verdict clock f
+      → x ≡ checked keys verdict clock r
   checked-is q r a f b x c = rw (← a, b) c
 
   module _ (es : List Entry) where
     answered-cases : (f : Fields) (t u w : Bool)
         → cond t (outcome ClockOutOfRange es) (cond (not u) (outcome UnknownKey es) (cond (not w) (outcome Unverified es) (tableOutcome clock f es)))
-        ≡ accepting (cond t (stopped ClockOutOfRange) (cond (not u) (stopped UnknownKey) (cond (not w) (stopped Unverified) (passing (fresh clock f))))) es
+        ≡ accepting (cond t (stopped ClockOutOfRange)
+        (cond (not u) (stopped UnknownKey) (cond (not w) (stopped Unverified) (passing (fresh clock f))))) es
     answered-cases f true u w = sym (stopped-is ClockOutOfRange es)
     answered-cases f false false w = sym (stopped-is UnknownKey es)
     answered-cases f false true false = sym (stopped-is Unverified es)

@@ -59,7 +59,8 @@ module _ (es : List Entry) (p keys : List ℕ) (verdict : Bool) (clock : ℕ) (f
           by-test (ltb (getD es i blank .sequence) (f .sequence))
           (ltb-true (getD es i blank .sequence) (f .sequence))
           (λ t.
-          let e : NotAbove ≡ Accepted = sym (ap (λ (o : Outcome). o .receipt) (not-above (ltb-false (getD es i blank .sequence) (f .sequence) t))) ∙ r in
+          let e : NotAbove ≡ Accepted = sym (ap (λ (o : Outcome). o .receipt) (not-above (ltb-false (getD es i blank .sequence) (f .sequence) t)))
+          ∙ r in
           clash (cc))
 
       known : Known es p keys verdict clock f i

@@ -57,7 +57,8 @@ module _ (f : Entry → Bool) where
   index-snoc (b ∷ es) e = cases (f b) (index-snoc es e)
     where
       cases : (t : Bool) → firstIndex f (es ++ (e ∷ [])) ≡ nextIndex (firstIndex f es) (length es) (length es + 1) (f e)
-          → cond t 0 (suc (firstIndex f (es ++ (e ∷ [])))) ≡ nextIndex (cond t 0 (suc (firstIndex f es))) (suc (length es)) (suc (length es) + 1) (f e)
+          → cond t 0 (suc (firstIndex f (es ++ (e ∷ [])))) ≡ nextIndex (cond t 0 (suc (firstIndex f es))) (suc (length es)) (suc (length es) + 1)
+          (f e)
       cases true p = let h : 0 < suc (length es) = omega arith in simp (lt-ltb _ _ h)
       cases false p = ap suc p ∙ next-suc (firstIndex f es) (length es) (f e)
 
@@ -73,7 +74,9 @@ entry-snoc es e k t = cases (ltb k (length es)) t refl
 
 -- ---- one pass over the entries
 
-scanned-snoc : (key event : ℕ) (es : List Entry) (e : Entry) → scanned key event (es ++ (e ∷ [])) ≡ scanStep (scanned key event es) e (length es) (length es + 1) key event
+scanned-snoc :
+    (key event : ℕ) (es : List Entry) (e : Entry) → scanned key event (es ++ (e ∷ [])) ≡ scanStep (scanned key event es) e (length es)
+    (length es + 1) key event
 scanned-snoc key event es e =
     rw (index-snoc (isOf key event) es e, index-snoc isFree es e) (ap (λ (x : Entry). record {
       known = nextIndex (firstIndex (isOf key event) es) (length es) (length es + 1) (isOf key event e);
@@ -86,14 +89,16 @@ module _ (key event : ℕ) (es : List Entry) where
   unfolding firstIndex
   scanned-none = refl
 
-  scanned-more : (i : ℕ) → i < length es → scanned key event (take (i + 1) es) ≡ scanStep (scanned key event (take i es)) (getD es i blank) i (i + 1) key event
+  scanned-more :
+      (i : ℕ) → i < length es → scanned key event (take (i + 1) es) ≡ scanStep (scanned key event (take i es)) (getD es i blank) i (i + 1) key event
   scanned-more i h =
       ap (scanned key event) (ap (λ (j : ℕ). take j es) (add-one i) ∙ take-suc es i blank h)
       ∙ (scanned-snoc key event (take i es) (getD es i blank)
       ∙ ap (λ (n : ℕ). scanStep (scanned key event (take i es)) (getD es i blank) n (n + 1) key event) (length-take-le i es (omega arith)))
 
   -- a step from what is found among the first i entries
-  pub scanned-next : (i : ℕ) → i < length es → (s r : Candidates) → s ≡ scanned key event (take i es) → r ≡ scanStep s (getD es i blank) i (i + 1) key event
+  pub scanned-next :
+      (i : ℕ) → i < length es → (s r : Candidates) → s ≡ scanned key event (take i es) → r ≡ scanStep s (getD es i blank) i (i + 1) key event
       → r ≡ scanned key event (take (i + 1) es)
   scanned-next i h s r a b = b ∙ (rw a (sym (scanned-more i h)))
 

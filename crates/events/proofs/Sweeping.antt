@@ -53,5 +53,6 @@ module _ (time : ℕ) (es : List Entry) where
         ∙ sym (append-snoc (sweptAll time (take i es)) (swept time (getD es i blank)) (drop (suc i) es)))
 
     -- one entry more
-    pub swept-to-next : (fs : List Entry) (x : Entry) → fs ≡ sweptTo time es i → x ≡ swept time (getD fs i blank) → set fs i x ≡ sweptTo time es (i + 1)
+    pub swept-to-next :
+        (fs : List Entry) (x : Entry) → fs ≡ sweptTo time es i → x ≡ swept time (getD fs i blank) → set fs i x ≡ sweptTo time es (i + 1)
     swept-to-next fs x a b = rw (b, a, next-at) next-set

@@ -32,7 +32,8 @@ pub record FirstAt (test : Entry → Bool) (es : List Entry) (i : ℕ) : Type 0 
   pub earlier : (k : ℕ) → k < i → test (getD es k blank) ≡ false
 
 module _ (es : List Entry) (p keys : List ℕ) (verdict : Bool) (clock : ℕ) (f : Fields) where
-  -- "While an event has an entry, a packet that passes every earlier check, CANCEL included, is accepted exactly if its sequence number is above the stored one. Acceptance changes that event's entry only."
+  -- "While an event has an entry, a packet that passes every earlier check, CANCEL included, is accepted exactly if its sequence number is above the
+  -- stored one. Acceptance changes that event's entry only."
   pub record Known (i : ℕ) : Type 0 where
     pub exactly : (received es p keys verdict clock .receipt ≡ Accepted) ↔ (getD es i blank .sequence < f .sequence)
     pub else : f .sequence ≤ getD es i blank .sequence → received es p keys verdict clock .receipt ≡ NotAbove

@@ -1,4 +1,5 @@
--- What the functions of src/ hand each other on the way to `received`: the checks before the table, what one pass over the entries finds, and what is then stored.
+-- What the functions of src/ hand each other on the way to `received`: the checks before the table, what one pass over
+-- the entries finds, and what is then stored.
 use mathlib.Core.Bool.{Bool, true, false, cond, not}
 use mathlib.Core.List.{List}
 use Prim.Native.Nat.{ℕ}

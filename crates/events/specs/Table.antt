@@ -56,7 +56,8 @@ renewed clock f e = record {
   «keep_until» = cond (ltb (e .«keep_until») (clock + f .ttl)) (clock + f .ttl) (e .«keep_until»);
 }
 
--- "A new event takes the lowest free entry, now used under its key id and event, with any sequence number; its keep-until is now plus ttl, whatever the free entry held."
+-- "A new event takes the lowest free entry, now used under its key id and event, with any sequence number; its
+-- keep-until is now plus ttl, whatever the free entry held."
 abbrev pub fresh : ℕ → Fields → Entry
 fresh clock f = record {
   used = true;
@@ -130,7 +131,9 @@ abbrev pub isStale : ℕ → Entry → Bool
 isStale time e = e .used && ltb (e .«keep_until») time
 
 abbrev pub swept : ℕ → Entry → Entry
-swept time e = cond (isStale time e) (record { used = false; key = e .key; event = e .event; sequence = e .sequence; cancelled = e .cancelled; «keep_until» = e .«keep_until» }) e
+swept time e =
+    cond (isStale time e) (record { used = false; key = e .key; event = e .event; sequence = e .sequence; cancelled = e .cancelled;
+    «keep_until» = e .«keep_until» }) e
 
 unfoldable pub sweptAll : ℕ → List Entry → List Entry
 sweptAll time [] = []

@@ -68,7 +68,8 @@ module _ (l : List ℕ) (t : ℕ) (alert part alert′ part′ : ℕ → Span)
       )
 
   lasting-same : (n : ℕ) (r : Lasts) → sheetLasting l n t alert part r ≡ sheetLasting l n t alert′ part′ r
-  lasting-same n (lasts.Stated d) = with-same (parts.OnePart (partFacts l n t part d)) ∙ ap (λ p. sheetWith l alert′ (parts.OnePart p)) (part-same n d)
+  lasting-same n (lasts.Stated d) =
+      with-same (parts.OnePart (partFacts l n t part d)) ∙ ap (λ p. sheetWith l alert′ (parts.OnePart p)) (part-same n d)
   lasting-same n lasts.OutOfRange = refl
 
   sheet-same : (r : Lookup) → sheetOfPart l t alert part r ≡ sheetOfPart l t alert′ part′ r

@@ -1,4 +1,5 @@
--- What is kept while a document is read: the same facts, gathered element by element. The laws in proofs/ show that they are those of the definitions.
+-- What is kept while a document is read: the same facts, gathered element by element. The laws in
+-- proofs/ show that they are those of the definitions.
 use mathlib.Core.Bool.{false, cond, _&&_, _||_}
 use mathlib.Core.List.{List}
 use Prim.Native.Nat.{ℕ, _-_, _≤_}

@@ -44,7 +44,8 @@ anyShape es = anyText (λ c t. isShape c) es
 abbrev pub anyHolds : Place → List Element → Bool
 anyHolds p es = anyText (shapeHolds p) es
 
--- "A part answers inside if any of its shapes holds the place, else outside, or no shape where it has neither polygon nor circle, as part 0 never has"
+-- "A part answers inside if any of its shapes holds the place, else outside, or no shape where it has
+-- neither polygon nor circle, as part 0 never has"
 abbrev pub placedAmong : (holds any : Bool) → CapPlace
 placedAmong holds any = cond holds placed.Inside (cond any placed.Outside placed.NoShape)
 

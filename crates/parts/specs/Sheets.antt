@@ -29,7 +29,8 @@ use Rattle.parts.specs.Codes.{messageOf, statusOf, scopeOf, urgencyOf, s
 
 -- ---- "A CAP part lasts from effective (else sent) to expires, or without expires "lasts no stated time""
 
--- the time from which a part lasts. The texts are those of an accepted document, whose times are instants: no time is said only where there is no element
+-- the time from which a part lasts. The texts are those of an accepted document, whose times are
+-- instants: no time is said only where there is no element
 abbrev pub startOf : (effective sent : Time) → Time
 startOf (time.Instant i) sent = time.Instant i
 startOf time.Fault sent = sent
@@ -51,7 +52,8 @@ lastsOf l alert part =
     (startOf (timeOf (spanIn l (part class.effective))) (timeOf (spanIn l (alert class.sent))))
     (timeOf (spanIn l (part class.expires)))
 
--- ---- "for CAP message type, status, scope, sender, identifier, part and total, urgency, severity, certainty (codes in small letters) and the lasting time or its absence"
+-- ---- "for CAP message type, status, scope, sender, identifier, part and total, urgency, severity, certainty (codes in
+-- small letters) and the lasting time or its absence"
 
 abbrev pub partFacts : List ℕ → (number total : ℕ) → (part : ℕ → Span) → Lasting → Part
 partFacts l number total part d = record {

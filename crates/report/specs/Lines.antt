@@ -1,5 +1,5 @@
--- What the program writes: "A program reads one document from standard input and writes each part's sentence (part 0's if none), stopping at the first
--- refusal with the line "refused N at P" in digits."
+-- What the program writes: "A program reads one document from standard input and writes each part's sentence (part 0's if none), stopping at the
+-- first refusal with the line "refused N at P" in digits."
 use mathlib.Core.Bool.{cond}
 use mathlib.Core.List.{List, [], _∷_, _++_}
 use Prim.Native.Nat.{ℕ, zero, suc, _+_, _/_, _%_}

@@ -45,7 +45,8 @@ sample-times = (refl, refl)
 pub sample-areas :
     (textRule class.polygon (ascii "0,0 0,1 1,0 0,0") ≡ 0)
     × (textRule class.circle (ascii "1,1") ≡ 22)
-unfolding numberFrom onToken longer tokens leads places fraction decimalLength isDecimal scaled coordinateAt degreesOf pairOf allPairs placesOf lastOf isClosed isPolygon circleTokens circleOf polygonRule circleRule textRule
+unfolding numberFrom onToken longer tokens leads places fraction decimalLength isDecimal scaled coordinateAt degreesOf pairOf allPairs placesOf lastOf
+    isClosed isPolygon circleTokens circleOf polygonRule circleRule textRule
 sample-areas = (refl, refl)
 
 -- event has no rule

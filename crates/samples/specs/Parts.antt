@@ -104,7 +104,9 @@ kiln =
       message = message.Alert;
       status = status.Actual;
       scope = scope.Public;
-      parts = OnePart (record { number = 1; total = 1; urgency = urgency.Immediate; severity = severity.Extreme; certainty = certainty.Observed; lasting = Seconds 900 });
+      parts =
+          OnePart (record { number = 1; total = 1; urgency = urgency.Immediate; severity = severity.Extreme; certainty = certainty.Observed;
+          lasting = Seconds 900 });
     })
     (record { start = 88; len = 12 })
     (record { start = 64; len = 3 })
@@ -154,7 +156,8 @@ pub record Samples : Type 0 where
 
 pub samples : Samples
 unfolding capSheet lastsOf lookUp within fold starts documentOf firstStep run stepOf constructStep tagStep endedStep startStep isAlert localName
-    boundStep openStep emptyStep closeStep textRule timeRule codeRule nameRule codeOf lists smallText allNameBytes timeOf stampTime instantOf offset epoch
+    boundStep openStep emptyStep closeStep textRule timeRule codeRule nameRule codeOf lists smallText allNameBytes timeOf stampTime instantOf offset
+    epoch
     localSeconds isStamp stampOf hasForm daysOfYears daysOfMonths nextOf containerOf class.classOf class.find class.names opening.prolog
     opening.declaration texts.content texts.isFault texts.isReference comments.comment attribute.nameSpace attribute.declared attribute.prefixed
     attribute.equals attribute.value tags.tail tags.tagEnd startsWith numberFrom sentence sentenceIn capText partsText partText lastingText dictionary

@@ -16,7 +16,8 @@ use Rattle.sheet.specs.Reading.{foundAt, isLine}
 use Rattle.sheet.specs.Answers.{Contents, sheets, stops, followedBy, lineLength, pick, asked, readBack}
 use Rattle.sheet.proofs.Contents.{contentsAt, turn-start, turn-end, turn-on, turn-stop}
 
--- the reader's answer where it was asked for k, is after n read-backs, keeps f as the one asked for if that is among them, and has the contents still to read
+-- the reader's answer where it was asked for k, is after n read-backs, keeps f as the one asked for if that is among
+-- them, and has the contents still to read
 unfoldable pub resumed : ℕ → ℕ → Found → Contents → ReadBack
 resumed k n f (sheets fs) =
     cond (eqb k 0)

@@ -37,7 +37,8 @@ rest-le rest l r = omega (arith, ap length (r .is) ∙ length-drop (r .from) l)
 pub rest-offset : (rest l : List ℕ) → Rest rest l → drop (indexIn l rest) l ≡ rest
 rest-offset rest l r =
     by-test (leb (r .from) (length l))
-    (λ e. let k = ap length (r .is) ∙ length-drop (r .from) l in let z : indexIn l rest ≡ r .from = omega (arith, leb-true (r .from) (length l) e) in rw z (sym (r .is)))
+    (λ e. let k = ap length (r .is) ∙ length-drop (r .from) l in let z : indexIn l rest ≡ r .from = omega (arith, leb-true (r .from) (length l) e) in
+    rw z (sym (r .is)))
     (λ e.
     let h = leb-false (r .from) (length l) e in
     let n : rest ≡ [] = r .is ∙ drop-of-length-le l {i = r .from} (omega arith) in
@@ -86,7 +87,8 @@ module _ (i : ℕ) (t : List ℕ) where
   found-cap e =
       let l = drop i t in
       rw e
-      (ap₂ (cap (capOf l)) (span-at (indexIn l (fromSender l)) (fromSender l) (rest-offset (fromSender l) l (sender-rest l))) (span-at (indexIn l (fromName l)) (fromName l) (rest-offset (fromName l) l (name-rest l))))
+      (ap₂ (cap (capOf l)) (span-at (indexIn l (fromSender l)) (fromSender l) (rest-offset (fromSender l) l (sender-rest l)))
+      (span-at (indexIn l (fromName l)) (fromName l) (rest-offset (fromName l) l (name-rest l))))
 
 -- from the start of a text
 pub sheet-warn : (l : List ℕ) → startsWith (ascii "warn") l ≡ true → sheetOf l ≡ warn (warnOf l)

@@ -68,7 +68,9 @@ past-none (x ∷ xs) d at h =
     rw (e, after-refused d at x e, start-refused d at x e) (past-none xs d at h)
 
 -- what stands between the first start and the last end
-part-all : (xs : List Sheet) (d : List ℕ) (at : ℕ) → take (length (sentences (sheetsWritten xs d at))) (drop at (written d at (sentences (sheetsWritten xs d at)))) ≡ sentences (sheetsWritten xs d at)
+part-all :
+    (xs : List Sheet) (d : List ℕ) (at : ℕ) → take (length (sentences (sheetsWritten xs d at)))
+    (drop at (written d at (sentences (sheetsWritten xs d at)))) ≡ sentences (sheetsWritten xs d at)
 unfolding sentences
 part-all xs d at =
     by-test (leb at (length d))

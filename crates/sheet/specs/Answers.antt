@@ -83,7 +83,8 @@ pick n [] k = readback.NotThere
 pick n (f ∷ fs) zero = readback.Sheet n f
 pick n (f ∷ fs) (suc k) = pick n fs k
 
--- "gives the number of sentences (an empty text has none) and the sheet of the sentence asked for, counted from 1; asked for 0, it gives the number only"
+-- "gives the number of sentences (an empty text has none) and the sheet of the sentence asked for, counted from 1;
+-- asked for 0, it gives the number only"
 unfoldable pub asked : ℕ → Contents → ReadBack
 asked zero (sheets fs) = readback.Count (length fs)
 asked zero (stops p) = readback.NotReadBack p

@@ -23,7 +23,9 @@ kilnAlert =
       message = message.Alert;
       status = status.Actual;
       scope = scope.Public;
-      parts = OnePart (record { number = 1; total = 1; urgency = urgency.Immediate; severity = severity.Extreme; certainty = certainty.Observed; lasting = Seconds 900 });
+      parts =
+          OnePart (record { number = 1; total = 1; urgency = urgency.Immediate; severity = severity.Extreme; certainty = certainty.Observed;
+          lasting = Seconds 900 });
     })
     (ascii "kiln.example")
     (ascii "A17")
@@ -56,7 +58,8 @@ warnCancel =
     })
 
 pub sample-alert : sentence kilnAlert ≡ ascii "cap alert, actual, public, from kiln.example, name A17, part one of one, immediate, extreme, observed, lasts fifteen minutes.\n"
-unfolding dictionary word spaced ones belowHundred belowThousand group numberCodes said counted durationCodes lasting lists smallText sentence sentenceIn capText partsText partText lastingText
+unfolding dictionary word spaced ones belowHundred belowThousand group numberCodes said counted durationCodes lasting lists smallText sentence
+    sentenceIn capText partsText partText lastingText
 sample-alert = refl
 
 pub sample-cancel : sentence kilnCancel ≡ ascii "cap cancel, actual, public, from kiln.example, name A18, no parts.\n"
@@ -64,5 +67,6 @@ unfolding lists smallText sentence sentenceIn capText partsText
 sample-cancel = refl
 
 pub sample-warn : sentence warnCancel ≡ ascii "warn alert urgent cancel, event seven, number two, origin twenty one, lasts one hour five minutes, hazard one, kind zero, urgency three, severity two, certainty one, response zero.\n"
-unfolding dictionary word spaced ones belowHundred belowThousand group numberCodes said counted durationCodes lasting sentence sentenceIn warnText flagsText flag originText hazardText
+unfolding dictionary word spaced ones belowHundred belowThousand group numberCodes said counted durationCodes lasting sentence sentenceIn warnText
+    flagsText flag originText hazardText
 sample-warn = refl

@@ -60,7 +60,8 @@ module _ (w : Wording) where
       flag (x .urgent) (ascii " urgent") ++ (flag (x .update) (ascii " update")
       ++ (flag (x .cancel) (ascii " cancel") ++ flag (x .test) (ascii " test")))
 
-  -- "warn alert urgent cancel, event seven, number two, origin twenty one, lasts one hour five minutes, hazard one, kind zero, urgency three, severity two, certainty one, response zero."
+  -- "warn alert urgent cancel, event seven, number two, origin twenty one, lasts one hour five minutes, hazard one, kind zero, urgency three,
+  -- severity two, certainty one, response zero."
   unfoldable pub originText : WarnFacts → List ℕ
   originText x =
       ascii ", event" ++ (said (x .event) ++ (ascii ", number" ++ (said (x .number)

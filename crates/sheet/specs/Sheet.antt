@@ -51,7 +51,8 @@ isParts (OnePart p) = leb 1 (p .number) && leb (p .number) (p .total) && leb (p 
 unfoldable pub fitsPacket : WarnFacts → Bool
 fitsPacket w =
     ltb (w .event) 0x1_0000_0000 && ltb (w .number) 0x1_0000 && ltb (w .origin) 0x1_0000_0000
-    && ltb (w .hazard) 0x100 && ltb (w .kind) 0x100 && ltb (w .urgency) 0x100 && ltb (w .severity) 0x100 && ltb (w .certainty) 0x100 && ltb (w .response) 0x100
+    && ltb (w .hazard) 0x100 && ltb (w .kind) 0x100 && ltb (w .urgency) 0x100 && ltb (w .severity) 0x100 && ltb (w .certainty) 0x100
+    && ltb (w .response) 0x100
 
 unfoldable pub inRange : Sheet → Bool
 inRange (cap f sender name) = isParts (f .parts) && isName sender && isName name

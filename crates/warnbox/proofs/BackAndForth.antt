@@ -82,7 +82,8 @@ module _ (x : MessageType) (y : Status) (z : Scope) (sender name : Span) where
 
   parts-back :
       (p : Parts) → fitsNumbers p ≡ true
-      → capFrom (withParts (messageNumber x) (statusNumber y) (scopeNumber z) sender name p) ≡ record { message = x; status = y; scope = z; parts = p }
+      → capFrom (withParts (messageNumber x) (statusNumber y) (scopeNumber z) sender name p)
+      ≡ record { message = x; status = y; scope = z; parts = p }
   unfolding capFrom partFrom numbersOfNone numbersOfPart
   parts-back NoPart e = rw (message-numbers x .back, status-numbers y .back, scope-numbers z .back)
   parts-back (OnePart p) e =

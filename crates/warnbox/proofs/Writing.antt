@@ -27,12 +27,15 @@ use Rattle.warnbox.specs.Sentences.{partSentence, partAfter, packetSente
 -- ---- a sheet that was drawn; r is the writer's answer, e what it leaves in the buffer
 
 module _ (d : List ℕ) (start : ℕ) (r : WriteSheet) (e : List ℕ) (a : Answer) (n : a ≡ writeAnswer r) where
-  module _ (l : List ℕ) (x : CapSheet) (f : CapFacts) (s t : Span) (q : x ≡ drawn.Sheet f s t) (u v : List ℕ) (g : u ≡ spanIn l s) (h : v ≡ spanIn l t) where
-    pub part-written : (r ≡ writeSheet d start (cap f u v)) × (e ≡ after d start (cap f u v)) → (a ≡ partSentence d start l x) × (e ≡ partAfter d start l x)
+  module _ (l : List ℕ) (x : CapSheet) (f : CapFacts) (s t : Span) (q : x ≡ drawn.Sheet f s t) (u v : List ℕ) (g : u ≡ spanIn l s)
+      (h : v ≡ spanIn l t) where
+    pub part-written :
+        (r ≡ writeSheet d start (cap f u v)) × (e ≡ after d start (cap f u v)) → (a ≡ partSentence d start l x) × (e ≡ partAfter d start l x)
     part-written w = rw (q, ← g, ← h, ← (w .0), ← (w .1)) (n, refl)
 
   module _ (x : PacketSheet) (w : WarnFacts) (q : x ≡ packet.Sheet w) where
-    pub packet-written : (r ≡ writeSheet d start (warn w)) × (e ≡ after d start (warn w)) → (a ≡ packetSentence d start x) × (e ≡ packetAfter d start x)
+    pub packet-written :
+        (r ≡ writeSheet d start (warn w)) × (e ≡ after d start (warn w)) → (a ≡ packetSentence d start x) × (e ≡ packetAfter d start x)
     packet-written p = rw (q, ← (p .0), ← (p .1)) (n, refl)
 
 -- ---- parts of a text
@@ -53,11 +56,13 @@ pub is-cap : (t n : List ℕ) (b : Bool) → b ≡ areCapIn t n → b ≡ true �
 is-cap t n b e h = and-left (areCap n) _ (and-left (areCap n && liesIn t (senderFrom n)) _ (sym e ∙ h))
 
 module _ (d : List ℕ) (start : ℕ) (t n : List ℕ) (b : Bool) (q : b ≡ areCapIn t n) where
-  module _ (r : WriteSheet) (e : List ℕ) (a : Answer) (m : a ≡ writeAnswer r) (h : b ≡ true) (f : CapFacts) (o : f ≡ capFrom n) (s p : Span) (j : s ≡ senderFrom n) (k : p ≡ nameFrom n) (u v : List ℕ) (g : u ≡ spanIn t s) (i : v ≡ spanIn t p) where
+  module _ (r : WriteSheet) (e : List ℕ) (a : Answer) (m : a ≡ writeAnswer r) (h : b ≡ true) (f : CapFacts) (o : f ≡ capFrom n) (s p : Span)
+      (j : s ≡ senderFrom n) (k : p ≡ nameFrom n) (u v : List ℕ) (g : u ≡ spanIn t s) (i : v ≡ spanIn t p) where
     same-sheet : cap f u v ≡ cap (capFrom n) (spanIn t (senderFrom n)) (spanIn t (nameFrom n))
     same-sheet = rw (o, g, i, j, k)
 
-    pub cap-written : (r ≡ writeSheet d start (cap f u v)) × (e ≡ after d start (cap f u v)) → (a ≡ numbersSentence d start t n) × (e ≡ numbersAfter d start t n)
+    pub cap-written :
+        (r ≡ writeSheet d start (cap f u v)) × (e ≡ after d start (cap f u v)) → (a ≡ numbersSentence d start t n) × (e ≡ numbersAfter d start t n)
     unfolding numbersSentence numbersAfter
     cap-written w = (
       rw (← q, h) (m ∙ ap writeAnswer (w .0 ∙ ap (writeSheet d start) same-sheet)),
@@ -66,7 +71,8 @@ module _ (d : List ℕ) (start : ℕ) (t n : List ℕ) (b : Bool) (q : b ≡ are
 
   module _ (h : b ≡ false) (c : Bool) (z : c ≡ areWarn n) where
     module _ (r : WriteSheet) (e : List ℕ) (a : Answer) (m : a ≡ writeAnswer r) (y : c ≡ true) (w : WarnFacts) (o : w ≡ warnFrom n) where
-      pub warn-written : (r ≡ writeSheet d start (warn w)) × (e ≡ after d start (warn w)) → (a ≡ numbersSentence d start t n) × (e ≡ numbersAfter d start t n)
+      pub warn-written :
+          (r ≡ writeSheet d start (warn w)) × (e ≡ after d start (warn w)) → (a ≡ numbersSentence d start t n) × (e ≡ numbersAfter d start t n)
       unfolding numbersSentence numbersAfter
       warn-written p = (
         rw (← q, h, ← z, y) (m ∙ ap writeAnswer (p .0 ∙ ap (λ (x : WarnFacts). writeSheet d start (warn x)) o)),

@@ -1,4 +1,5 @@
--- What the functions for C give back: a refusal's number, 0 for none; and with it a value, which is a refusal's offset or else what the function tells.
+-- What the functions for C give back: a refusal's number, 0 for none; and with it a value, which is a
+-- refusal's offset or else what the function tells.
 -- Numbers and offsets are those that each answer's own definition gives.
 use Prim.Native.Nat.{ℕ}
 use Rattle.sheet.specs.declared.WriteSheet.{WriteSheet}

@@ -32,7 +32,8 @@ at n i = getD n i 0
 abbrev pub isFlag : ℕ → Bool
 isFlag k = leb k 1
 
--- part 0 of 0 has no facts of its own: what its other numbers are doesn't matter; nor does the lasting time where none is stated, as long as it fits 32 bits
+-- part 0 of 0 has no facts of its own: what its other numbers are doesn't matter; nor does the lasting
+-- time where none is stated, as long as it fits 32 bits
 abbrev pub hasNoPart : List ℕ → Bool
 hasNoPart n = eqb (at n 4) 0 && eqb (at n 5) 0
 

@@ -44,7 +44,8 @@ abbrev pub packetAfter : List ℕ → ℕ → PacketSheet → List ℕ
 packetAfter d start (packet.Sheet w) = after d start (warn w)
 packetAfter d start (packet.Refused fault) = d
 
--- ---- the sentence of a sheet that is handed in as the numbers n, with the text t that holds its sender and name. Numbers that stand for no sheet are "a fact out of range", 23
+-- ---- the sentence of a sheet that is handed in as the numbers n, with the text t that holds its sender and name. Numbers that stand
+-- for no sheet are "a fact out of range", 23
 
 -- a part of the text t
 abbrev pub liesIn : List ℕ → Span → Bool

@@ -19,7 +19,8 @@ long : (s : tie.Start Inv-loop μ-loop) → length (s .args .t1 .entries) ≡ 64
 long s = simp length-map at (s .good .0 .1 .1 .0 .1 .0 .1)
 
 loop-holds : tie.Need-loop-holds Inv-loop μ-loop
-loop-holds c = (search needs, c .«no-candidates» .ensures ∙ scanned-none (c .before .args .key) (c .before .args .event) (c .before .args .t1 .entries))
+loop-holds c =
+    (search needs, c .«no-candidates» .ensures ∙ scanned-none (c .before .args .key) (c .before .args .event) (c .before .args .t1 .entries))
 
 loop-again : tie.Need-loop-again Inv-loop μ-loop
 loop-again c = let s = c .before .before .before .before .before in

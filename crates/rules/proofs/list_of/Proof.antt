@@ -25,5 +25,7 @@ returns-9 c =
 pub list-of-spec : {M : Type 1} → statement M
 list-of-spec =
     tie.close
-    (tie.spec (λ c. sym (ap listOf (c .match .keys1))) (λ c. sym (ap listOf (c .match .keys2))) (λ c. sym (ap listOf (c .match .keys3))) (λ c. sym (ap listOf (c .match .keys4)))
-    (λ c. sym (ap listOf (c .match .keys5))) (λ c. sym (ap listOf (c .match .keys6))) (λ c. sym (ap listOf (c .match .keys7))) (λ c. sym (ap listOf (c .match .keys8))) returns-9)
+    (tie.spec (λ c. sym (ap listOf (c .match .keys1))) (λ c. sym (ap listOf (c .match .keys2))) (λ c. sym (ap listOf (c .match .keys3)))
+    (λ c. sym (ap listOf (c .match .keys4)))
+    (λ c. sym (ap listOf (c .match .keys5))) (λ c. sym (ap listOf (c .match .keys6))) (λ c. sym (ap listOf (c .match .keys7)))
+    (λ c. sym (ap listOf (c .match .keys8))) returns-9)

@@ -31,5 +31,6 @@ put-lines-spec =
     tie.close
     (tie.spec Inv-loop μ-loop (λ c. (refl, record { parts = refl; text = refl }))
     _ (λ c. c .before .before .before .dst .given ∙ c .before .before .before .before .before .before .before .loop .inv .0) returns
-    (λ c. omega (arith, c .before .before .before .before .before .before .before .loop .inv .1 .parts)) (λ c. omega arith) (λ c. omega arith) loop-again
+    (λ c. omega (arith, c .before .before .before .before .before .before .before .loop .inv .1 .parts)) (λ c. omega arith)
+    (λ c. omega arith) loop-again
     (λ c. c .before .loop .inv .0) (λ c. left-none (c .before .loop .inv .1) (omega arith)))

@@ -7,7 +7,9 @@ use Rattle.warnbox.proofs.answers.packet_place_answer.Statement.{statem
 use Rattle.warnbox.proofs.answers.packet_place_answer.Tie as tie
 
 returns-4 : tie.Need-returns-4
-returns-4 c = c .refused .ensures ∙ ap (λ (n : ℕ). refused n 0) (c .before .fault-number .ensures) ∙ ap packetPlaceAnswer (sym (c .before .before .before .answer .given .1))
+returns-4 c =
+    c .refused .ensures ∙ ap (λ (n : ℕ). refused n 0) (c .before .fault-number .ensures) ∙ ap packetPlaceAnswer
+    (sym (c .before .before .before .answer .given .1))
 
 pub packet-place-answer-spec : {M : Type 1} → statement M
 packet-place-answer-spec =

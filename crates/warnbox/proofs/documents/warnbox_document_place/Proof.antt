@@ -12,7 +12,9 @@ use Rattle.warnbox.proofs.documents.warnbox_document_place.Tie as tie
 returns : tie.Need-returns
 returns c =
     let k = c .before .before .before in
-    number-and-value (c .cap-place-answer .ensures ∙ ap capPlaceAnswer (c .before .cap-place .ensures ∙ ap (λ (p : Place). capPlace (k .args .part) p (k .args .document .now)) (place-read _ _ (k .fits .lat) (k .fits .lon))))
+    number-and-value (c .cap-place-answer .ensures ∙ ap capPlaceAnswer
+    (c .before .cap-place .ensures ∙ ap (λ (p : Place). capPlace (k .args .part) p (k .args .document .now))
+    (place-read _ _ (k .fits .lat) (k .fits .lon))))
 
 pub warnbox-document-place-spec : {M : Type 1} → statement M
 warnbox-document-place-spec = tie.close (tie.spec (λ c κs. search needs) (λ c κs. search needs) returns)

@@ -29,13 +29,18 @@ cast-t45 : tie.Need-cast-t45
 cast-t45 c = let w = warn-width _ (c .before .before .before .before .before .before .before .before .before .before .before .pre) in omega arith
 
 cast-t49 : tie.Need-cast-t49
-cast-t49 c = let w = warn-width _ (c .before .before .before .before .before .before .before .before .before .before .before .before .pre) in omega arith
+cast-t49 c =
+    let w = warn-width _ (c .before .before .before .before .before .before .before .before .before .before .before .before .pre) in omega arith
 
 cast-t53 : tie.Need-cast-t53
-cast-t53 c = let w = warn-width _ (c .before .before .before .before .before .before .before .before .before .before .before .before .before .pre) in omega arith
+cast-t53 c =
+    let w = warn-width _ (c .before .before .before .before .before .before .before .before .before .before .before .before .before .pre) in
+    omega arith
 
 cast-t57 : tie.Need-cast-t57
-cast-t57 c = let w = warn-width _ (c .before .before .before .before .before .before .before .before .before .before .before .before .before .before .pre) in omega arith
+cast-t57 c =
+    let w = warn-width _ (c .before .before .before .before .before .before .before .before .before .before .before .before .before .before .pre) in
+    omega arith
 
 returns : tie.Need-returns
 unfolding warnFrom

@@ -12,7 +12,8 @@ use Rattle.warnbox.proofs.packets.warnbox_packet_place.Tie as tie
 returns : tie.Need-returns
 returns c =
     let k = c .before .before .before in
-    number-and-value (c .packet-place-answer .ensures ∙ ap packetPlaceAnswer (c .before .packet-place .ensures ∙ ap (λ (p : Place). packetPlace (k .args .packet .now) p) (place-read _ _ (k .fits .lat) (k .fits .lon))))
+    number-and-value (c .packet-place-answer .ensures ∙ ap packetPlaceAnswer
+    (c .before .packet-place .ensures ∙ ap (λ (p : Place). packetPlace (k .args .packet .now) p) (place-read _ _ (k .fits .lat) (k .fits .lon))))
 
 pub warnbox-packet-place-spec : {M : Type 1} → statement M
 warnbox-packet-place-spec = tie.close (tie.spec (λ c κs. search needs) (λ c κs. search needs) returns)

@@ -9,10 +9,14 @@ use Rattle.warnbox.proofs.packets.write_drawn.Statement.{statement}
 use Rattle.warnbox.proofs.packets.write_drawn.Tie as tie
 
 returns : tie.Need-returns
-returns c = packet-written _ _ _ _ _ (c .write-answer .ensures) _ _ (c .before .before .before .before .before .before .drawn .given .1) (c .before .before .before .write-warn .ensures)
+returns c =
+    packet-written _ _ _ _ _ (c .write-answer .ensures) _ _ (c .before .before .before .before .before .before .drawn .given .1)
+    (c .before .before .before .write-warn .ensures)
 
 returns-2 : tie.Need-returns-2
-returns-2 c = (c .refused .ensures ∙ ap (λ (n : ℕ). refused n 0) (c .before .fault-number .ensures) ∙ ap (packetSentence _ _) (sym (c .before .before .before .drawn2 .given .1)), ap (packetAfter _ _) (sym (c .before .before .before .drawn2 .given .1)))
+returns-2 c =
+    (c .refused .ensures ∙ ap (λ (n : ℕ). refused n 0) (c .before .fault-number .ensures) ∙ ap (packetSentence _ _)
+    (sym (c .before .before .before .drawn2 .given .1)), ap (packetAfter _ _) (sym (c .before .before .before .drawn2 .given .1)))
 
 pub write-drawn-spec : {M : Type 1} → statement M
 write-drawn-spec =

@@ -5,7 +5,8 @@ use Rattle.warnbox.proofs.sentences.lies_in.Statement.{statement}
 use Rattle.warnbox.proofs.sentences.lies_in.Tie as tie
 
 returns-2 : tie.Need-returns-2
-returns-2 c = fits-after (c .before .before .before .before .args .text .now) (c .before .before .before .before .args .span) (c .before .before .if1 .left)
+returns-2 c =
+    fits-after (c .before .before .before .before .args .text .now) (c .before .before .before .before .args .span) (c .before .before .if1 .left)
 
 pub lies-in-spec : {M : Type 1} → statement M
 lies-in-spec =

@@ -9,4 +9,5 @@ use Rattle.warnbox.proofs.sentences.warnbox_count.Tie as tie
 pub warnbox-count-spec : {M : Type 1} → statement M
 warnbox-count-spec =
     tie.close
-    (tie.spec (λ c κs. search needs) (λ c κs. search needs) (λ c. number-and-value (c .read-answer .ensures ∙ ap readAnswer (c .before .read-back .ensures))))
+    (tie.spec (λ c κs. search needs) (λ c κs. search needs)
+    (λ c. number-and-value (c .read-answer .ensures ∙ ap readAnswer (c .before .read-back .ensures))))

@@ -6,13 +6,27 @@ use Rattle.warnbox.proofs.sentences.write_numbers.Statement.{statement}
 use Rattle.warnbox.proofs.sentences.write_numbers.Tie as tie
 
 returns : tie.Need-returns
-returns c = cap-written _ _ _ _ _ (c .before .before .before .before .before .before .before .before .before .before .before .are-cap-in .ensures) _ _ _ (c .write-answer .ensures) (c .before .before .before .before .before .before .before .before .before .before .if1 .taken) _ (c .before .before .before .before .before .before .before .before .before .cap-from .ensures) _ _ (c .before .before .before .before .before .before .before .before .sender-from .ensures) (c .before .before .before .before .before .before .name-from .ensures) _ _ (c .before .before .before .before .before .before .before .span-in .ensures) (c .before .before .before .before .before .span-in2 .ensures) (c .before .before .before .write-cap .ensures)
+returns c =
+    cap-written _ _ _ _ _ (c .before .before .before .before .before .before .before .before .before .before .before .are-cap-in .ensures) _ _ _
+    (c .write-answer .ensures) (c .before .before .before .before .before .before .before .before .before .before .if1 .taken) _
+    (c .before .before .before .before .before .before .before .before .before .cap-from .ensures) _ _
+    (c .before .before .before .before .before .before .before .before .sender-from .ensures)
+    (c .before .before .before .before .before .before .name-from .ensures) _ _
+    (c .before .before .before .before .before .before .before .span-in .ensures) (c .before .before .before .before .before .span-in2 .ensures)
+    (c .before .before .before .write-cap .ensures)
 
 returns-2 : tie.Need-returns-2
-returns-2 c = warn-written _ _ _ _ _ (c .before .before .before .before .before .before .before .before .before .are-cap-in .ensures) (c .before .before .before .before .before .before .before .before .if1 .left) _ (c .before .before .before .before .before .before .before .are-warn .ensures) _ _ _ (c .write-answer2 .ensures) (c .before .before .before .before .before .before .if2 .taken) _ (c .before .before .before .before .before .warn-from .ensures) (c .before .before .before .write-warn .ensures)
+returns-2 c =
+    warn-written _ _ _ _ _ (c .before .before .before .before .before .before .before .before .before .are-cap-in .ensures)
+    (c .before .before .before .before .before .before .before .before .if1 .left) _
+    (c .before .before .before .before .before .before .before .are-warn .ensures) _ _ _ (c .write-answer2 .ensures)
+    (c .before .before .before .before .before .before .if2 .taken) _ (c .before .before .before .before .before .warn-from .ensures)
+    (c .before .before .before .write-warn .ensures)
 
 returns-3 : tie.Need-returns-3
-returns-3 c = no-sheet _ _ _ _ _ (c .before .before .before .before .are-cap-in .ensures) (c .before .before .before .if1 .left) _ (c .before .before .are-warn .ensures) _ (c .refused .ensures) (c .before .if2 .left)
+returns-3 c =
+    no-sheet _ _ _ _ _ (c .before .before .before .before .are-cap-in .ensures) (c .before .before .before .if1 .left) _
+    (c .before .before .are-warn .ensures) _ (c .refused .ensures) (c .before .if2 .left)
 
 pub write-numbers-spec : {M : Type 1} → statement M
 write-numbers-spec =

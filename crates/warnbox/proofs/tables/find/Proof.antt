@@ -47,7 +47,8 @@ module _ {M : Type 1} (𝓤 : URA M) (H : Heap 𝓤) (A : Atoms 𝓤) (W : Given
       (and-then ! (local ! 2 refl) (and-then ! (local ! 3 refl) (and-then ! (local ! 4 refl) (no-more !)))) (λ ws _ is.
       lands-in ! 6 refl (typed 𝓤 H A W candidates s is .0) $ sets ! 7 refl (of-opd ! (part ! 3 refl (sub ! 1 refl (whole !))))
       (tt, record { fits = are .0 .0 .1 .0 }) $
-      calls-plain ! 𝓣 position.ended (position.clauses 𝓤 H A mem run) finds tt tt tt (s, (length xs, tt)) tt (id⊢ 𝓤 _) (id⊢ 𝓤 _) (candidates, (number w64, tt))
+      calls-plain ! 𝓣 position.ended (position.clauses 𝓤 H A mem run) finds tt tt tt (s, (length xs, tt)) tt (id⊢ 𝓤 _) (id⊢ 𝓤 _)
+      (candidates, (number w64, tt))
       (is, ((refl, are .0 .0 .1 .0), tt))
       position (positionIn (s .known) (length xs)) (λ r ws. id⊢ 𝓤 _) (and-then ! (local ! 7 refl) (and-then ! (local ! 8 refl) (no-more !))) (λ found.
       lands-in ! 2 refl (typed 𝓤 H A W position (positionIn (s .known) (length xs)) found .0) $
@@ -63,5 +64,6 @@ find-spec 𝓤 H 𝓜 𝓖 𝓡 =
     (meets 𝓤 H (𝓖 .A) (givenOf 𝓤 H 𝓜 𝓖) (𝓜 .mem) (𝓡 .run) (tablesOf 𝓤 H 𝓜 (tables 𝓤 H 𝓜 𝓡 code.env))
     (cited 𝓤 H (tripleOf 𝓤 H (𝓖 .A) scan.signature (scan.spec 𝓤 H (𝓖 .A) (𝓜 .mem) (𝓡 .run))) 𝓜 𝓡 code.env scan-def.name scan-def.routine
     code.calls-warnbox·tables·scan (scan-thm.met 𝓤 H 𝓜 𝓖 𝓡))
-    (cited 𝓤 H (tripleOf 𝓤 H (𝓖 .A) position.signature (position.spec 𝓤 H (𝓖 .A) (𝓜 .mem) (𝓡 .run))) 𝓜 𝓡 code.env position-def.name position-def.routine
+    (cited 𝓤 H (tripleOf 𝓤 H (𝓖 .A) position.signature (position.spec 𝓤 H (𝓖 .A) (𝓜 .mem) (𝓡 .run))) 𝓜 𝓡 code.env position-def.name
+    position-def.routine
     code.calls-events·plans·position (position-thm.met 𝓤 H 𝓜 𝓖 𝓡)))

@@ -83,7 +83,8 @@ module _ {M : Type 1} (𝓤 : URA M) (H : Heap 𝓤) (A : Atoms 𝓤) (W : Given
       sets ! 12 refl (bin ! (local ! 7 refl) (lit ! tt) (record { fits = further })) (tt, record { fits = further }) $
       calls-plain ! 𝓣 one.ended (one.clauses 𝓤 H A mem run) steps tt tt tt (st i, (e, (i, (i + 1, (key, (event, tt)))))) tt (id⊢ 𝓤 _) (id⊢ 𝓤 _)
       (candidates, (entry, (number w64, (number w64, (number w32, (number w32, tt))))))
-      (so-far, (is, ((refl, omega (arith, further)), ((refl, further), ((refl, are .1 .0 .1), ((refl, are .1 .1 .0 .1), tt)))))) candidates (st (i + 1))
+      (so-far, (is, ((refl, omega (arith, further)), ((refl, further), ((refl, are .1 .0 .1), ((refl, are .1 .1 .0 .1), tt)))))) candidates
+      (st (i + 1))
       (λ r ws. that 𝓤 (r ≡ scanStep (st i) e i (i + 1) key event) (r ≡ st (i + 1)) (scanned-next key event xs i small (st i) r refl))
       (and-then ! (local ! 7 refl) (and-then ! (local ! 12 refl) (and-then ! (local ! 8 refl)
       (and-then ! (local ! 13 refl) (and-then ! (local ! 5 refl) (and-then ! (local ! 6 refl) (no-more !))))))) (λ next.

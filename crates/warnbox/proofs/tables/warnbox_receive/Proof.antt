@@ -47,15 +47,20 @@ module _ {M : Type 1} (𝓤 : URA M) (H : Heap 𝓤) (A : Atoms 𝓤) (W : Given
     (counts : Triple 𝓤 (𝓣 .C counting-def.name) (tripleOf 𝓤 H A counting.signature (counting.spec 𝓤 H A mem run))) where
   meets : Meets 𝓤 H A receive.signature (WpFn 𝓤 H (𝓣 .C) (𝓣 .Λ) code.function) (receive.spec 𝓤 H A mem run)
   meets = met W receive.ended stayed (receive.clauses 𝓤 H A mem run)
-      (goes-gave-slice 𝓤 H A W 3 0 tt (plain (λ _. R)), all-drop 𝓤 H A W (others (receive.signature .params)) (receive.ended .kept .1) ((λ κs x f. refl), ((λ κs x f. refl), ((λ κs x f. refl), ((λ κs x f. refl), tt))))) 𝓣 code.function
-      (λ κs. (mutable (named 0) (κs .0) R, (shared (named 1) (κs .1 .0) u8, (shared (named 2) (κs .1 .1 .0) u32, (truth .spelled, (number w64 .spelled, tt)))))) (λ κs qs b a g are are-typed.
+      (goes-gave-slice 𝓤 H A W 3 0 tt (plain (λ _. R)), all-drop 𝓤 H A W (others (receive.signature .params)) (receive.ended .kept .1)
+      ((λ κs x f. refl), ((λ κs x f. refl), ((λ κs x f. refl), ((λ κs x f. refl), tt))))) 𝓣 code.function
+      (λ κs. (mutable (named 0) (κs .0) R,
+      (shared (named 1) (κs .1 .0) u8, (shared (named 2) (κs .1 .1 .0) u32, (truth .spelled, (number w64 .spelled, tt))))))
+      (λ κs qs b a g are are-typed.
       let xs : List Entry = now (a .0) in
       let slice : Val = sliceVal (a .0 .ptr) (length xs) in
       let c : Checked = afterChecks (now (a .1 .1 .0)) (a .1 .1 .1 .0) (a .1 .1 .1 .1 .0) (packetOf (now (a .1 .0))) in
       let o : Outcome = accepting c xs in
       let is-o : received xs (now (a .1 .0)) (now (a .1 .1 .0)) (a .1 .1 .1 .0) (a .1 .1 .1 .1 .0) ≡ o = received-is (now (a .1 .1 .0))
       (a .1 .1 .1 .0) (a .1 .1 .1 .1 .0) xs (now (a .1 .0)) in
-      let at : Vals receive.signature κs = (slice ∷ [], (sliceVal (a .1 .0 .ptr) (length (now (a .1 .0))) ∷ [], (sliceVal (a .1 .1 .0 .ptr) (length (now (a .1 .1 .0))) ∷ [], (vbool (a .1 .1 .1 .0) ∷ [], (vint w64 (a .1 .1 .1 .1 .0) ∷ [], tt))))) in
+      let at : Vals receive.signature κs = (slice ∷ [],
+      (sliceVal (a .1 .0 .ptr) (length (now (a .1 .0))) ∷ [],
+      (sliceVal (a .1 .1 .0 .ptr) (length (now (a .1 .1 .0))) ∷ [], (vbool (a .1 .1 .1 .0) ∷ [], (vint w64 (a .1 .1 .1 .1 .0) ∷ [], tt))))) in
       qed W ((‵ (flft (κs .0) (qs .0)) ⊛ (‵ (flft (κs .1 .0) (qs .1 .0)) ⊛ (‵ (flft (κs .1 .1 .0) (qs .1 .1 .0)) ⊛ ‵ ftrue))) ∷ ‵
       (owns (typesAt (receive.signature .params) κs) a at) ∷ []) ∵ enters ! code.function _ (λ _. are-typed) (λ bs.
       move ! (21 ∷ []) $ fsplit ! $ move ! (22 ∷ []) $ split ! $ move ! (1 ∷ 3 ∷ []) $ join ! $
@@ -69,7 +74,8 @@ module _ {M : Type 1} (𝓤 : URA M) (H : Heap 𝓤) (A : Atoms 𝓤) (W : Given
       (tt, (tt, (record { fits = are .0 .0 .1 .0 }, tt))) $
       move ! (3 ∷ []) $ beside ! (K.the-row ∷ []) (checked, tt) (c, tt) (good, tt) $ nothing ! $ move ! (4 ∷ 0 ∷ 1 ∷ []) $ join ! $ join ! $
       -- what `accept` is given; the other tokens; true; local k at k + 3
-      calls-equal ! 𝓣 accept.ended (accept.clauses 𝓤 H A mem run) accepts (((κs .0, tt), (qs .0, tt), tt, (a .0, (c, tt)), (slice ∷ [], (checked .spelled .val c ∷ [], tt))), tt) (id⊢ 𝓤 _) (id⊢ 𝓤 _)
+      calls-equal ! 𝓣 accept.ended (accept.clauses 𝓤 H A mem run) accepts
+      (((κs .0, tt), (qs .0, tt), tt, (a .0, (c, tt)), (slice ∷ [], (checked .spelled .val c ∷ [], tt))), tt) (id⊢ 𝓤 _) (id⊢ 𝓤 _)
       receipt (o .receipt) (λ r ws. (r ≡ o .receipt) × (ws .0 ≡ o .entries)) (λ r ws. id⊢ 𝓤 _) (λ r ws e. e .0)
       (and-then ! (local ! 12 refl) (and-then ! (local ! 9 refl) (no-more !))) (λ ws said made.
       lands-in ! 11 refl (typed 𝓤 H A W receipt (o .receipt) made .0) $

@@ -38,7 +38,10 @@ stayed = (stay-slice (0 ∷ []) tt (plain (λ _. R)), drops (others (sweep.signa
 module _ {M : Type 1} (𝓤 : URA M) (H : Heap 𝓤) (A : Atoms 𝓤) (W : Given 𝓤 H A) (mem : Memory → SProp 𝓤) (run : Routine → Fun 𝓤) (𝓣 : Tables 𝓤 H)
     (sweeps : Triple 𝓤 (𝓣 .C one-def.name) (tripleOf 𝓤 H A one.signature (one.spec 𝓤 H A mem run))) where
   meets : Meets 𝓤 H A sweep.signature (WpFn 𝓤 H (𝓣 .C) (𝓣 .Λ) code.function) (sweep.spec 𝓤 H A mem run)
-  meets = met W sweep.ended stayed (sweep.clauses 𝓤 H A mem run) (goes-slice 𝓤 H A W 1 0 tt (plain (λ _. R)), all-drop 𝓤 H A W (others (sweep.signature .params)) (sweep.ended .kept .1) ((λ κs x f. refl), tt)) 𝓣 code.function
+  meets =
+      met W sweep.ended stayed (sweep.clauses 𝓤 H A mem run)
+      (goes-slice 𝓤 H A W 1 0 tt (plain (λ _. R)), all-drop 𝓤 H A W (others (sweep.signature .params)) (sweep.ended .kept .1) ((λ κs x f. refl), tt))
+      𝓣 code.function
       (λ κs. (mutable (named 0) (κs .0) R, (number w64 .spelled, tt))) (λ κs qs b a g are are-typed.
       let c : ℕ = a .1 .0 in
       let xs : List Entry = now (a .0) in
