@@ -88,6 +88,10 @@ below-at (suc n) f t k h =
     (λ l. below-at n f (true-T (below n f) (and-right (f n) (below n f) e)) k l)
     (eq-or-lt-of-le (le-of-suc-le-suc h))
 
+-- a test over two ranges, at a pair
+pub below-both : (n m : ℕ) (f : ℕ → ℕ → Bool) → T (below n (λ (s : ℕ). below m (f s))) → (s c : ℕ) → s < n → c < m → f s c ≡ true
+below-both n m f t s c h g = below-at m (f s) (true-T (below m (f s)) (below-at n (λ (s : ℕ). below m (f s)) t s h)) c g
+
 -- two texts are equal, as a test
 abbrev pub eql : List ℕ → List ℕ → Bool
 eql [] [] = true
