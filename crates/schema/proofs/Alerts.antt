@@ -62,10 +62,6 @@ pub only-alert : Only before class.alert (firstState class.alert)
 unfolding nextOf containerOf
 only-alert = only-one before class.alert (firstState class.alert) tt
 
--- nothing else starts there
-pub before-alert : (c : ℕ) → (nextOf before c ≡ 0 → ⊥) → c ≡ class.alert
-before-alert c h = only-alert c h .0
-
 pub only-identifier : Only (firstState class.alert) class.identifier (firstState class.alert + 1)
 unfolding nextOf containerOf
 only-identifier = only-one (firstState class.alert) class.identifier (firstState class.alert + 1) tt

@@ -1,4 +1,4 @@
--- What the code's table of hashes has to say, by one test over the whole table. The private function that looks a word up takes a table that passes it.
+-- What the code's table of hashes has to say, by one test over the whole table. A private function takes a table that passes it.
 use mathlib.Core.Bool.{Bool, _&&_}
 use mathlib.Core.List.{List, []}
 use Prim.Native.Nat.{ℕ, _+_, _-_, _*_, _%_}

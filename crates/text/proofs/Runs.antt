@@ -1,21 +1,21 @@
 -- Runs of bytes that pass a test: what a turn of a loop over one says, how long a run is, many bytes at once, and what goes on after a run.
-use mathlib.Core.Path.{_≡_, sym, ap, _∙_}
+use mathlib.Core.Path.{_≡_, ap, _∙_}
 use mathlib.Core.Bool.{Bool, true, false, _&&_}
 use mathlib.Core.List.{List, [], _∷_}
 use Prim.Native.Nat.{ℕ, zero, suc, _+_, _≤_, _<_, zero-le, suc-le-suc}
 use native.Mathlib.Numerals.{add-one}
 use native.Mathlib.Omega.{arith}
 use lib.Dec.{leb, leb·zero, leb·suc-zero, leb·suc-suc}
-use lib.ListN.{length, getD, take, drop, drop-of-length-le, length-drop}
-use lib.Seq.{drop-cons, drop-drop, getD-drop, length-take-le}
+use lib.ListN.{length, getD, drop, drop-of-length-le, length-drop}
+use lib.Seq.{drop-cons, drop-drop, getD-drop}
 use Rattle.text.specs.Bytes.{leading, ledBy}
 use Rattle.text.specs.Logic.{by-test, and-comm}
 
--- what stands at a place, by its first byte
+-- what stands at an offset, by its first byte
 pub drop-next : (s : List ℕ) (i : ℕ) → i < length s → drop i s ≡ getD s i 0 ∷ drop (i + 1) s
 drop-next s i h = rw (add-one i) (drop-cons s i 0 h)
 
--- the byte at a place leads what stands there
+-- the byte at an offset leads what stands there
 pub led-is : (p : ℕ → Bool) (s : List ℕ) (i : ℕ) {t : Bool} → i < length s → t ≡ p (getD s i 0) → t ≡ ledBy p (drop i s)
 led-is p s i h q = rw (drop-next s i h) q
 
@@ -37,7 +37,7 @@ pub run-le : (p : ℕ → Bool) (l : List ℕ) → leading p l ≤ length l
 run-le p [] = zero-le
 run-le p (b ∷ l) = by-test (p b) (λ e. rw e (suc-le-suc (run-le p l))) (λ e. rw e zero-le)
 
--- a run from a place of a list ends within it
+-- a run from an offset of a list ends within it
 pub run-within : (p : ℕ → Bool) (s : List ℕ) (i : ℕ) → i ≤ length s → i + leading p (drop i s) ≤ length s
 run-within p s i h = omega (arith, run-le p (drop i s), length-drop i s)
 

@@ -11,6 +11,6 @@ startsWith [] l = true
 startsWith (a ∷ p) [] = false
 startsWith (a ∷ p) (b ∷ l) = eqb b a && startsWith p l
 
--- the bytes of a text from one place to another; none where the second is not after the first
+-- the bytes of a text from one offset to another; none where the second is not after the first
 abbrev pub part : List ℕ → ℕ → ℕ → List ℕ
 part l from until = take (until - from) (drop from l)

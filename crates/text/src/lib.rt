@@ -21,7 +21,7 @@ pub fn is_digit(b: u8) -> bool
     (b'0' <= b) & (b <= b'9')
 }
 
-// The first place from `at` on that holds no white space; `at` itself where it lies past the end.
+// The first offset from `at` on that holds no white space; `at` itself where it lies past the end.
 pub fn skip_space(s: &[u8], at: usize) -> usize
     ensures { λ r. ⌜ r ≡ at + spaces (drop at (now (s .entry))) ⌝ }
 {
@@ -36,7 +36,7 @@ pub fn skip_space(s: &[u8], at: usize) -> usize
     i
 }
 
-// The first place from `at` on that holds white space, or the end; `at` itself where it lies past the end.
+// The first offset from `at` on that holds white space, or the end; `at` itself where it lies past the end.
 pub fn token_end(s: &[u8], at: usize) -> usize
     ensures { λ r. ⌜ r ≡ at + tokenLength (drop at (now (s .entry))) ⌝ }
 {
@@ -70,7 +70,7 @@ pub fn first(t: &[u8], k: usize) -> &[u8]
     &t[..k]
 }
 
-// The bytes of a text from one place to another; none where the second is not after the first.
+// The bytes of a text from one offset to another; none where the second is not after the first.
 pub fn part(t: &[u8], from: usize, until: usize) -> &[u8]
     ensures { λ r. ⌜ now r ≡ part (now (t .entry)) from until ⌝ }
 {
@@ -97,7 +97,7 @@ pub fn starts_with(t: &[u8], p: &[u8]) -> bool
     true
 }
 
-// Whether p stands at a place of a text.
+// Whether p stands at an offset of a text.
 pub fn starts_at(t: &[u8], at: usize, p: &[u8]) -> bool
     ensures { λ r. ⌜ r ≡ startsWith (now (p .entry)) (drop at (now (t .entry))) ⌝ }
 {

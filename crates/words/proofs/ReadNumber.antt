@@ -74,7 +74,9 @@ pub ends-stop : (l : List ℕ) → endsNumber (code "." ∷ l) ≡ true
 ends-stop l = ends-byte (code ".") l refl refl
 
 -- a space and a word that is no number word; a text that begins with no letter stands after it
-pub ends-word : (w rest : List ℕ) → letters w ≡ length w → isNumberWord (codeOf w) ≡ false → letters rest ≡ 0 → endsNumber (code " " ∷ (w ++ rest)) ≡ true
+pub ends-word :
+    (w rest : List ℕ) → letters w ≡ length w → isNumberWord (codeOf w) ≡ false → letters rest ≡ 0
+    → endsNumber (code " " ∷ (w ++ rest)) ≡ true
 unfolding endsNumber
 ends-word w rest e n z = rw (word-at w rest e z, n)
 
@@ -107,7 +109,9 @@ read-spaced (w ∷ ws) i rest g p e =
     ∙ read-spaced ws (i + (1 + length (word w))) rest (step w g) (p .1) e
     ∙ ap (quantity (total (steps ws (step w g)))) (simp length-append (omega arith)))
 
-pub read-said : (n i : ℕ) (rest : List ℕ) → n < 4_294_967_296 → endsNumber rest ≡ true → numberAt i (said n ++ rest) ≡ record { value = n; end = i + length (said n) }
+pub read-said :
+    (n i : ℕ) (rest : List ℕ) → n < 4_294_967_296 → endsNumber rest ≡ true
+    → numberAt i (said n ++ rest) ≡ quantity n (i + length (said n))
 unfolding numberAt said
 read-said n i rest h e =
     read-spaced (numberCodes n) i rest nothing (number-codes n h) e

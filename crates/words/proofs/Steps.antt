@@ -27,7 +27,7 @@ index-le [] i w = omega arith
 index-le (d ∷ ds) i w =
     by-test (eql w d) (λ e. rw e (omega arith)) (λ e. rw e (omega (arith, index-le ds (suc i) w)))
 
--- the word at the place that was found
+-- the word at the index that was found
 index-word : (ds : List (List ℕ)) (i k : ℕ) (w : List ℕ) → k < length ds → indexIn ds i w ≡ i + k → w ≡ getD ds k []
 unfolding indexIn
 index-word [] i k w h e = absurd (omega arith)
@@ -92,7 +92,7 @@ number-word-within l e = word-within l (number-letter (wordAt l) e)
 
 -- ---- one turn of the number loop
 
--- a value and the place after it
+-- a value and the offset after it
 abbrev pub quantity : ℕ → ℕ → Quantity
 quantity v e = record { value = v; end = e }
 
@@ -120,7 +120,8 @@ module _ (i : ℕ) (l : List ℕ) (g : Groups) where
   pub number-on :
       isNumberWord (codeOf (wordAt l)) ≡ true
       → numberWords (length l) i l g
-      ≡ numberWords (length (drop (1 + length (wordAt l)) l)) (i + (1 + length (wordAt l))) (drop (1 + length (wordAt l)) l) (step (codeOf (wordAt l)) g)
+      ≡ numberWords (length (drop (1 + length (wordAt l)) l)) (i + (1 + length (wordAt l))) (drop (1 + length (wordAt l)) l)
+      (step (codeOf (wordAt l)) g)
   unfolding numberWords
   number-on e =
       let k = 1 + length (wordAt l) in
@@ -145,7 +146,7 @@ number-within (suc n) i l g =
     (λ e. rw e (omega arith))
 
 -- the offset of the text only moves the end
-pub number-shift : (n i : ℕ) (l : List ℕ) (g : Groups) → numberWords n i l g ≡ record { value = numberWords n 0 l g .value; end = i + numberWords n 0 l g .end }
+pub number-shift : (n i : ℕ) (l : List ℕ) (g : Groups) → numberWords n i l g ≡ quantity (numberWords n 0 l g .value) (i + numberWords n 0 l g .end)
 unfolding numberWords
 number-shift zero i l g = ap (quantity (total g)) (omega arith)
 number-shift (suc n) i l g =
@@ -160,7 +161,7 @@ number-shift (suc n) i l g =
     ∙ ap₂ quantity (sym (ap (λ (x : Quantity). x .value) z)) (omega (arith, ap (λ (x : Quantity). x .end) z))))
     (λ e. rw e (ap (quantity (total g)) (omega arith)))
 
-pub number-at-shift : (i : ℕ) (l : List ℕ) → numberAt i l ≡ record { value = numberAt 0 l .value; end = i + numberAt 0 l .end }
+pub number-at-shift : (i : ℕ) (l : List ℕ) → numberAt i l ≡ quantity (numberAt 0 l .value) (i + numberAt 0 l .end)
 unfolding numberAt
 number-at-shift i l = number-shift (length l) i l nothing
 
@@ -194,7 +195,8 @@ module _ (i : ℕ) (l : List ℕ) (s : ℕ) where
   pub counts-on :
       eqb (unitSeconds (codeOf (unitWord l))) 0 ≡ false
       → counts (length l) i l s
-      ≡ counts (length (drop (countLength l) l)) (i + countLength l) (drop (countLength l) l) (kept (s + countOf l * unitSeconds (codeOf (unitWord l))))
+      ≡ counts (length (drop (countLength l) l)) (i + countLength l) (drop (countLength l) l)
+      (kept (s + countOf l * unitSeconds (codeOf (unitWord l))))
   unfolding counts
   counts-on e =
       let k = countLength l in

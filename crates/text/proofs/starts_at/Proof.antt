@@ -1,4 +1,4 @@
--- What stands from a place on is what stands after the bytes in front of it.
+-- What stands from an offset on is what stands after the bytes in front of it.
 use mathlib.Core.Path.{ap, _∙_}
 use borrow.Author.Needs.{needs}
 use Rattle.text.specs.Parts.{startsWith}

@@ -12,7 +12,9 @@ returns-2 : tie.Need-returns-2
 returns-2 c = let s = c .before .before .before in (omega arith, λ h. absurd (omega (arith, not-long (s .pre) (s .args .word .now) h)))
 
 cast-result : tie.Need-cast-result
-cast-result c = fits-under _ _ 40 (found-low (c .before .before .before .before .before .before .before .before .pre) _ _ (omega arith) (omega arith)) tt
+cast-result c =
+    let s = c .before .before .before .before .before .before .before .before in
+    fits-under _ _ 40 (found-low (s .pre) _ _ (omega arith) (omega arith)) tt
 
 returns-3 : tie.Need-returns-3
 returns-3 c =
