@@ -14,6 +14,7 @@ hashOf l = (getD l 0 0 + 4 * getD l 1 0 + getD l (length l - 1) 0) % 18
 abbrev pub foundIn : List (List ℕ) → List ℕ → ℕ
 foundIn table l = getD (getD table (length l - 3) []) (hashOf l) 0
 
+-- an entry is the code of a word
 abbrev pub isLow : List (List ℕ) → ℕ → ℕ → Bool
 isLow table k h = ltb (getD (getD table k []) h 0) 40
 
