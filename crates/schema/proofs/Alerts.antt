@@ -5,10 +5,10 @@ use Prim.Native.Nat.{ℕ, _+_, _<_}
 use native.Mathlib.Omega.{arith}
 use lib.Dec.{T, eqb}
 use borrow.Author.Tests.{eqb-true, eqb-false, not-true, eq-eqb, ne-eqb}
-use Rattle.text.specs.Logic.{and-left, and-right, below}
+use Rattle.text.specs.Logic.{and-left, and-right, below, below-both}
 use Rattle.schema.specs.Classes as class
 use Rattle.schema.specs.Sequences.{before, firstState, states, classes, containerOf, nextOf}
-use Rattle.schema.proofs.Table.{below-both, inside}
+use Rattle.schema.proofs.Table.{inside}
 
 -- ---- rules of any table
 
@@ -61,10 +61,6 @@ only-one state d next t c h =
 pub only-alert : Only before class.alert (firstState class.alert)
 unfolding nextOf containerOf
 only-alert = only-one before class.alert (firstState class.alert) tt
-
--- nothing else starts there
-pub before-alert : (c : ℕ) → (nextOf before c ≡ 0 → ⊥) → c ≡ class.alert
-before-alert c h = only-alert c h .0
 
 pub only-identifier : Only (firstState class.alert) class.identifier (firstState class.alert + 1)
 unfolding nextOf containerOf

@@ -13,14 +13,14 @@ use Rattle.schema.specs.Sequences.{classes}
 
 -- ---- finding in any list
 
--- a place found is below the end of the places
+-- an index found is below the end of the list
 pub find-below : (k m : ℕ) (t : List ℕ) (ns : List (List ℕ)) → k + length ns ≤ m → 0 < m → find k t ns < m
 unfolding find
 find-below k m t [] h g = g
 find-below k m t (n ∷ ns) h g =
     cond-cases (λ (r : ℕ). r < m) (eql t n) k (find (k + 1) t ns) (λ e. omega arith) (λ e. find-below (k + 1) m t ns (omega arith) g)
 
--- at a place found, but for place 0, the text stands in the list
+-- at an index found, but for 0, the text stands in the list
 pub find-at :
     (k : ℕ) (t : List ℕ) (ns : List (List ℕ)) → (find k t ns ≡ 0 → ⊥) → (k ≤ find k t ns) × (t ≡ getD ns (find k t ns - k) [])
 unfolding find

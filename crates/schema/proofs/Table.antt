@@ -1,21 +1,17 @@
 -- What the tests over the tables of containers say of each entry, for any table that passes its test.
 use mathlib.Core.Path.{_≡_, sym}
-use mathlib.Core.Bool.{Bool, true, _&&_}
+use mathlib.Core.Bool.{true, _&&_}
 use mathlib.Core.List.{List}
 use Prim.Native.Nat.{ℕ, _+_, _-_, _≤_, _<_}
 use native.Mathlib.Omega.{arith}
 use borrow.Author.Tests.{le-ltb, eqb-true, ltb-true, ltb-false}
-use lib.Dec.{T, eqb, ltb}
+use lib.Dec.{eqb, ltb}
 use lib.ListN.{getD}
 use mir.Syntax.{w64}
 use mir.Val.{Fits}
-use Rattle.text.specs.Logic.{by-test, true-T, below, below-at, and-left, and-right}
+use Rattle.text.specs.Logic.{by-test, below-at, below-both, and-left, and-right}
 use Rattle.schema.specs.Sequences.{nextOf, containerOf, states, classes}
 use Rattle.schema.specs.Tables.{entryAt, isRight, Tabled, isOwner, Owned}
-
--- a test over two ranges, at a pair
-pub below-both : (n m : ℕ) (f : ℕ → ℕ → Bool) → T (below n (λ (s : ℕ). below m (f s))) → (s c : ℕ) → s < n → c < m → f s c ≡ true
-below-both n m f t s c h g = below-at m (f s) (true-T (below m (f s)) (below-at n (λ (s : ℕ). below m (f s)) t s h)) c g
 
 -- ---- what may follow
 

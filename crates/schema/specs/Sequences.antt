@@ -104,7 +104,7 @@ containerOf state = cond (ltb state states) (ownerFrom class.lastContainer state
 
 -- ---- what may follow
 
--- what the particle at place i says of a class, if k particles are passed: the class stands at i, or a later particle must tell, or it may not
+-- what the particle at index i says of a class, if k particles are passed: the class stands at i, or a later particle must tell, or it may not
 -- stand here.
 -- passed: i is before the last particle passed; last: i is that one; same: the class is the particle's
 abbrev choose : (passed last same : Bool) → Particle → ℕ → ℕ → ℕ
@@ -114,7 +114,7 @@ choose false true false p i later = later
 choose false false true p i later = i
 choose false false false p i later = cond (eqb (p .least) 0) later 0
 
--- the place of the particle by which a class may follow the first k particles, counted from i; 0 where it may not
+-- the index of the particle by which a class may follow the first k particles, counted from i; 0 where it may not
 abbrev pub follows : ℕ → ℕ → ℕ → List Particle → ℕ
 follows k c i [] = 0
 follows k c i (p ∷ ps) = choose (ltb i k) (eqb i k) (eqb (p .class) c) p i (follows k c (i + 1) ps)
@@ -124,7 +124,7 @@ abbrev pub complete : ℕ → ℕ → List Particle → Bool
 complete k i [] = true
 complete k i (p ∷ ps) = (leb i k || eqb (p .least) 0) && complete k (i + 1) ps
 
--- the place of a class among the particles
+-- the index of a class among the particles
 abbrev pub indexIn : ℕ → ℕ → List Particle → ℕ
 indexIn c i [] = 0
 indexIn c i (p ∷ ps) = cond (eqb (p .class) c) i (indexIn c (i + 1) ps)
@@ -138,9 +138,9 @@ endOf c k =
 
 -- a container's start goes to its own first state, a leaf on to the state after its particle
 abbrev startOf : ℕ → ℕ → ℕ → ℕ
-startOf c d place =
-    cond (eqb place 0) 0
-    (cond (leb d class.lastContainer) (firstState d) (firstState c + place))
+startOf c d index =
+    cond (eqb index 0) 0
+    (cond (leb d class.lastContainer) (firstState d) (firstState c + index))
 
 abbrev pub nextIn : ℕ → ℕ → ℕ → ℕ
 nextIn c k d = cond (eqb d 0) (endOf c k) (startOf c d (follows k d 1 (particles c)))

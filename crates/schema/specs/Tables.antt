@@ -3,8 +3,8 @@ use mathlib.Core.Bool.{Bool, _&&_, _||_}
 use mathlib.Core.List.{List, []}
 use Prim.Native.Nat.{ℕ, _+_, _-_, _*_, _%_, _≤_, _<_}
 use lib.Dec.{T, eqb, leb, ltb}
-use lib.ListN.{length, getD, take, drop}
-use Rattle.text.specs.Logic.{below, eql}
+use lib.ListN.{length, getD}
+use Rattle.text.specs.Logic.{below}
 use Rattle.schema.specs.Classes.{nameOf}
 use Rattle.schema.specs.Sequences.{nextOf, containerOf, states, classes}
 
@@ -34,20 +34,6 @@ isOwner table s = ltb (getD table s 0) classes && eqb (getD table s 0) (containe
 pub record Owned (table : List ℕ) (state : ℕ) : Type 0 where
   pub right : T (below states (isOwner table))
   pub state-below : state < states
-
--- ---- the names, one after the other
-
--- the name of the class at a place stands between its start and the next, which are places of the text; first is the class at place 0
-abbrev pub isSpelt : (first : ℕ) (text starts : List ℕ) → ℕ → Bool
-isSpelt first text starts k =
-    leb (getD starts k 0) (getD starts (k + 1) 0) && leb (getD starts (k + 1) 0) (length text)
-    && eql (take (getD starts (k + 1) 0 - getD starts k 0) (drop (getD starts k 0) text)) (nameOf (first + k))
-
--- a text has the names of n classes, which start at first, and a class is among them
-pub record Spelt (first n : ℕ) (text starts : List ℕ) (class : ℕ) : Type 0 where
-  pub right : T (below n (isSpelt first text starts))
-  pub class-from : first ≤ class
-  pub class-below : class < first + n
 
 -- ---- the class of each name's hash
 

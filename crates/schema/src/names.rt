@@ -1,9 +1,10 @@
 // Names of elements.
 ghost use mathlib.Core.Path.{_≡_};
-ghost use Prim.Native.Nat.{_+_, _*_, _%_, _≤_, _<_};
+ghost use Prim.Native.Nat.{_+_, _-_, _*_, _%_, _≤_, _<_};
 ghost use Rattle.text.specs.Logic.{eql};
+ghost use Rattle.text.specs.Spelling.{Spelt};
 ghost use Rattle.schema.specs.Classes.{nameOf, classOf};
-ghost use Rattle.schema.specs.Tables.{Spelt, Hashed};
+ghost use Rattle.schema.specs.Tables.{Hashed};
 
 // The names, one after the other in the order of their classes, in four texts of 13 classes each, named by their first class; and where the name of
 // each class starts in its text. The name of class 0 is empty, and so is that of 51, which is no class. There are four texts because the compiler
@@ -38,12 +39,12 @@ const HASHED: [u8; 128] = [
 
 // Whether a text is the name of a class, which stands between its start and the next.
 fn is_spelt(t: &[u8], names: &[u8], starts: &[u8; 14], first: usize, class: usize) -> bool
-    requires { ⌜ Spelt first 13 (now names) (now starts) class ⌝ }
+    requires { ⌜ (first ≤ class) × Spelt (λ k. nameOf (first + k)) 13 (now names) (now starts) (class - first) ⌝ }
     ensures { λ r. ⌜ r ≡ eql (now (t .entry)) (nameOf class) ⌝ }
 {
-    let place = class - first;
-    let start = starts[place] as usize;
-    let end = starts[place + 1] as usize;
+    let index = class - first;
+    let start = starts[index] as usize;
+    let end = starts[index + 1] as usize;
     text::equals(t, &names[start..end])
 }
 

@@ -1,4 +1,3 @@
-pub mod Table
 pub mod Hash
 pub mod Letters
 pub mod Groups

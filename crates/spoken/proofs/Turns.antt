@@ -1,4 +1,4 @@
--- One turn of each reader: the number words and the counts that are left to read at a place of a text.
+-- One turn of each reader: the number words and the counts that are left to read at an offset of a text.
 use mathlib.Core.Path.{_≡_, sym, ap, ap₂, _∙_}
 use mathlib.Core.Bool.{true, false}
 use mathlib.Core.List.{List}
@@ -16,7 +16,7 @@ use Rattle.words.specs.Reading.{unitSeconds, countOf, unitWord, countLength, co
 use Rattle.words.proofs.Steps.{number-word-within, number-on, number-stop, unit-range, count-within, counts-on, counts-stop, number-at-shift}
 use Rattle.spoken.proofs.Letters.{IsWord}
 
--- what is read from the place i of s on
+-- what is read from the offset i of s on
 abbrev pub numberFrom : List ℕ → ℕ → Groups → Quantity
 numberFrom s i g = numberWords (length (drop i s)) i (drop i s) g
 
@@ -62,7 +62,7 @@ counts-move :
     → counts (length (drop k (drop i s))) (i + k) (drop k (drop i s)) v ≡ countsFrom s j v′
 counts-move s i k j v v′ p q = rw (p, q, drop-drop k i s)
 
--- h: the number that is read; w, e and u: the code of the word after it, the place after that, and its seconds
+-- h: the number that is read; w, e and u: the code of the word after it, the offset after that, and its seconds
 module _ (s : List ℕ) (i : ℕ) (h : Quantity) (a : h ≡ numberAt i (drop i s)) (w e u : ℕ) (q : IsWord s (h .end) w e) (t : u ≡ unitSeconds w) where
   shifted : h ≡ record { value = countOf (drop i s); end = i + numberAt 0 (drop i s) .end }
   shifted = a ∙ number-at-shift i (drop i s)

@@ -1,14 +1,15 @@
-// The words of numbers and units. A word's code is its place among them.
+// The words of numbers and units. A word's code is its index among them.
 use buffer::put;
 use text::equals;
-use text::part;
 use text::skip;
 ghost use mathlib.Core.Path.{_≡_};
 ghost use mathlib.Core.List.{[], _∷_};
-ghost use Prim.Native.Nat.{_<_};
+ghost use Prim.Native.Nat.{_+_, _*_, _%_, _<_};
 ghost use Rattle.buffer.specs.Cursor.{Put};
+ghost use Rattle.text.specs.Spelling.{Spelt};
 ghost use Rattle.words.specs.Words.{spaced};
 ghost use Rattle.words.specs.Reading.{codeOf};
+ghost use Rattle.spoken.specs.Tables.{Hashed};
 
 // All words in the order of their codes, each after a space.
 const TEXT: [u8; 267] =
@@ -16,47 +17,8 @@ const TEXT: [u8; 267] =
 
 // Where each word's space stands in TEXT, and where the last word ends.
 const STARTS: [u16; 41] = [
-    0,
-    5,
-    9,
-    13,
-    19,
-    24,
-    29,
-    33,
-    39,
-    45,
-    50,
-    54,
-    61,
-    68,
-    77,
-    86,
-    94,
-    102,
-    112,
-    121,
-    130,
-    137,
-    144,
-    150,
-    156,
-    162,
-    170,
-    177,
-    184,
-    192,
-    201,
-    209,
-    217,
-    221,
-    226,
-    231,
-    237,
-    244,
-    252,
-    259,
-    267,
+    0, 5, 9, 13, 19, 24, 29, 33, 39, 45, 50, 54, 61, 68, 77, 86, 94, 102, 112, 121, 130, 137, 144, 150, 156, 162, 170, 177, 184,
+    192, 201, 209, 217, 221, 226, 231, 237, 244, 252, 259, 267,
 ];
 
 // The code of a word by its length, from 3 letters on, and a hash of its letters. No two words of one length have the same hash.
@@ -100,18 +62,34 @@ pub const SECONDS: usize = 39;
 // The code of any other word: the number of the words.
 pub const UNKNOWN: usize = 40;
 
+// The word of code w after a space, which stands between its start and the next.
+fn spaced_word<'a>(words: &'a [u8], starts: &'a [u16; 41], w: usize) -> &'a [u8]
+    requires { ⌜ Spelt (λ k. spaced (k ∷ [])) 40 (now words) (now starts) w ⌝ }
+    ensures { λ r. ⌜ now r ≡ spaced (w ∷ []) ⌝ }
+{
+    let start = starts[w] as usize;
+    let end = starts[w + 1] as usize;
+    &words[start..end]
+}
+
 // Writes the word of code w after a space.
 pub fn put_word(dst: &mut [u8], at: usize, w: usize) -> usize
     requires { ⌜ w < 40 ⌝ }
     ensures { λ r. ⌜ Put (now (dst .entry)) at (spaced (w ∷ [])) (now (dst .exit)) r ⌝ }
 {
-    let start = STARTS[w] as usize;
-    let end = STARTS[w + 1] as usize;
-    put(dst, at, part(&TEXT, start, end))
+    put(dst, at, spaced_word(&TEXT, &STARTS, w))
 }
 
-// The only code that a word can have if it has one: found by a hash of three of its letters and its length.
-fn candidate(word: &[u8]) -> usize
+// A hash of three letters.
+fn hash(first: u8, second: u8, last: u8) -> usize
+    ensures { λ r. ⌜ r ≡ (first + 4 * second + last) % 18 ⌝ }
+{
+    (first as usize + 4 * (second as usize) + last as usize) % 18
+}
+
+// The only code that a word can have if it has one.
+fn candidate(word: &[u8], hashed: &[[u8; 18]; 7]) -> usize
+    requires { ⌜ Hashed (now hashed) ⌝ }
     ensures { λ r. ⌜ (r < 40) × (codeOf (now (word .entry)) < 40 → r ≡ codeOf (now (word .entry))) ⌝ }
 {
     let n = word.len();
@@ -121,20 +99,16 @@ fn candidate(word: &[u8]) -> usize
     if 9 < n {
         return 0;
     }
-    let first = word[0] as usize;
-    let second = word[1] as usize;
-    let last = word[n - 1] as usize;
-    HASHED[n - 3][(first + 4 * second + last) % 18] as usize
+    let h = hash(word[0], word[1], word[n - 1]);
+    hashed[n - 3][h] as usize
 }
 
 // The code of a word; UNKNOWN where it is none of the words.
 pub fn code_of(word: &[u8]) -> usize
     ensures { λ r. ⌜ r ≡ codeOf (now (word .entry)) ⌝ }
 {
-    let w = candidate(word);
-    let start = STARTS[w] as usize;
-    let end = STARTS[w + 1] as usize;
-    if equals(word, skip(part(&TEXT, start, end), 1)) {
+    let w = candidate(word, &HASHED);
+    if equals(word, skip(spaced_word(&TEXT, &STARTS, w), 1)) {
         return w;
     }
     UNKNOWN

@@ -29,7 +29,7 @@ fn put_counted(dst: &mut [u8], at: usize, n: u32, one: usize, many: usize) -> us
     put_word(dst, a, many)
 }
 
-// Writes as much of a number of seconds in words as fits into dst from the place at on, nothing for 0 seconds, and gives the place after it.
+// Writes as much of a number of seconds in words as fits into dst from `at` on, nothing for 0 seconds, and gives the next start.
 pub fn put_duration(dst: &mut [u8], at: usize, s: u32) -> usize
     ensures { λ r. ⌜ Put (now (dst .entry)) at (lasting s) (now (dst .exit)) r ⌝ }
 {

@@ -44,14 +44,14 @@ pub fn write_duration(buffer: &mut [u8], start: usize, seconds: u32) -> WriteTex
     write_text(buffer, start, skip(first(&own, k), 1))
 }
 
-// Reads the number whose words, each after a space, stand in the text at a place.
+// Reads the number whose words, each after a space, stand in the text at an offset.
 pub fn read_number(text: &[u8], at: usize) -> Quantity
     ensures { λ r. ⌜ r ≡ numberAt at (drop at (now (text .entry))) ⌝ }
 {
     number_at(text, at)
 }
 
-// Reads the number of seconds whose words, each after a space, stand in the text at a place.
+// Reads the number of seconds whose words, each after a space, stand in the text at an offset.
 pub fn read_duration(text: &[u8], at: usize) -> Quantity
     ensures { λ r. ⌜ r ≡ durationAt at (drop at (now (text .entry))) ⌝ }
 {

@@ -57,7 +57,7 @@ fn put_group(dst: &mut [u8], at: usize, count: usize, unit: usize) -> usize
     put_word(dst, a, unit)
 }
 
-// Writes as much of a number in words as fits into dst from the place at on, and gives the place after it.
+// Writes as much of a number in words as fits into dst from `at` on, and gives the next start.
 pub fn put_number(dst: &mut [u8], at: usize, n: u32) -> usize
     ensures { λ r. ⌜ Put (now (dst .entry)) at (said n) (now (dst .exit)) r ⌝ }
 {

@@ -25,7 +25,7 @@ fn is_letter(b: u8) -> bool
     (b'a' <= b) & (b <= b'z')
 }
 
-// The first place from `at` on that holds no letter, or the end.
+// The first offset from `at` on that holds no letter, or the end.
 fn word_end(s: &[u8], at: usize) -> usize
     ensures { λ r. ⌜ r ≡ at + letters (drop at (now (s .entry))) ⌝ }
 {
@@ -40,13 +40,13 @@ fn word_end(s: &[u8], at: usize) -> usize
     i
 }
 
-// The code of a word, and the place after it.
+// The code of a word, and the offset after it.
 struct Word {
     code: usize,
     end: usize,
 }
 
-// The word after the space at a place.
+// The word after the space at an offset.
 fn word_at(s: &[u8], at: usize) -> Word
     ensures { λ r. ⌜ (r .code ≡ codeOf (wordAt (drop at (now (s .entry))))) × (r .code < 40 → r .end ≡ at + (1 + length (wordAt (drop at (now (s .entry)))))) ⌝ }
 {
@@ -125,7 +125,7 @@ fn total(g: Groups) -> u32
     ((g.sum + g.current) % LIMIT) as u32
 }
 
-// Reads as many number words as stand at a place.
+// Reads as many number words as stand at an offset.
 pub fn number_at(s: &[u8], at: usize) -> Quantity
     ensures { λ r. ⌜ r ≡ numberAt at (drop at (now (s .entry))) ⌝ }
 {
@@ -173,7 +173,7 @@ fn add_count(sum: u32, n: u32, unit: u32) -> u32
     ((sum as u64 + n as u64 * unit as u64) % LIMIT) as u32
 }
 
-// Reads as many counts as stand at a place with a unit after each.
+// Reads as many counts as stand at an offset with a unit after each.
 pub fn duration_at(s: &[u8], at: usize) -> Quantity
     ensures { λ r. ⌜ r ≡ durationAt at (drop at (now (s .entry))) ⌝ }
 {

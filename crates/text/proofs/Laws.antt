@@ -1,16 +1,16 @@
 -- Laws of white space and tokens: where their runs end, and what a run says of the whole text.
-use mathlib.Core.Path.{_≡_, refl, sym, ap}
+use mathlib.Core.Path.{_≡_, refl}
 use mathlib.Core.Bool.{true, false, not, false≢true}
 use mathlib.Core.Logic.{_⊎_, inl, inr}
 use mathlib.Core.List.{List, [], _∷_}
 use Prim.Native.Nat.{ℕ, _+_, _≤_, _<_}
 use native.Mathlib.Omega.{arith}
-use borrow.Author.Tests.{not-true, not-false, eq-eqb, ne-eqb}
-use lib.ListN.{length, getD, take, drop}
+use borrow.Author.Tests.{not-true, eq-eqb, ne-eqb}
+use lib.ListN.{length, take, drop}
 use Rattle.text.specs.Bytes.{isSpace, spaces, dropSpace, allSpace}
 use Rattle.text.specs.Tokens.{onToken, longer, tokens, tokenLength}
 use Rattle.text.specs.Logic.{by-test}
-use Rattle.text.proofs.Runs.{run-on, run-le, run-within}
+use Rattle.text.proofs.Runs.{run-le, run-within}
 
 pub spaces-le : (l : List ℕ) → spaces l ≤ length l
 spaces-le = run-le isSpace

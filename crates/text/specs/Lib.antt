@@ -4,3 +4,4 @@ pub mod Tokens
 pub mod Logic
 pub mod Parts
 pub mod Search
+pub mod Spelling

@@ -1,6 +1,6 @@
 -- Laws of tests and of tables that every crate's proofs use. They say nothing about texts.
 use mathlib.Core.Path.{_≡_, refl, sym, subst}
-use mathlib.Core.Bool.{Bool, true, false, cond, not, _&&_, _||_, false≢true}
+use mathlib.Core.Bool.{Bool, true, false, cond, _&&_, _||_, false≢true}
 use mathlib.Core.List.{List, [], _∷_}
 use mathlib.Core.Logic.{⊎-elim}
 use Prim.Native.Nat.{ℕ, zero, suc, _<_, _≤_}
@@ -87,6 +87,10 @@ below-at (suc n) f t k h =
     (λ s. subst (λ (m : ℕ). f m ≡ true) (sym s) (and-left (f n) (below n f) e))
     (λ l. below-at n f (true-T (below n f) (and-right (f n) (below n f) e)) k l)
     (eq-or-lt-of-le (le-of-suc-le-suc h))
+
+-- a test over two ranges, at a pair
+pub below-both : (n m : ℕ) (f : ℕ → ℕ → Bool) → T (below n (λ (s : ℕ). below m (f s))) → (s c : ℕ) → s < n → c < m → f s c ≡ true
+below-both n m f t s c h g = below-at m (f s) (true-T (below m (f s)) (below-at n (λ (s : ℕ). below m (f s)) t s h)) c g
 
 -- two texts are equal, as a test
 abbrev pub eql : List ℕ → List ℕ → Bool

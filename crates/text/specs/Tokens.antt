@@ -1,7 +1,7 @@
 -- A text as its tokens: the longest runs of bytes that are not white space, in their order.
-use mathlib.Core.Bool.{Bool, true, false, cond, not}
+use mathlib.Core.Bool.{Bool, false, cond, not}
 use mathlib.Core.List.{List, [], _∷_}
-use Prim.Native.Nat.{ℕ, zero, suc}
+use Prim.Native.Nat.{ℕ}
 use Rattle.text.specs.Bytes.{leading, isSpace}
 
 -- the text goes on with a token

@@ -12,16 +12,6 @@ use Rattle.words.specs.Words.{dictionary, word, spaced, hundred, thousan
 use Rattle.words.specs.Duration.{day, days, hour, hours, minute, minutes, second, seconds, counted, lasting}
 use Rattle.words.proofs.Cases.{thousand-low, thousand-high, group-none, group-some, said-zero, said-some, counted-none, counted-one, counted-many, lasting-parts}
 
--- ---- a word
-
-word-fits : ℕ → Bool
-unfolding word dictionary
-word-fits w = leb (length (word w)) 9
-
-pub word-le : (w : ℕ) → w < 40 → length (word w) ≤ 9
-unfolding word-fits
-word-le w h = leb-true (length (word w)) 9 (below-at 40 word-fits tt w h)
-
 -- ---- parts of a number, by tests over all their values
 
 -- " seven" is as long as any word for a number below ten
@@ -121,15 +111,6 @@ sixty-le : (n : ℕ) → n < 60 → length (said n) ≤ 13
 unfolding sixty-fits
 sixty-le n h = leb-true (length (said n)) 13 (below-at 60 sixty-fits tt n h)
 
--- " three hundred twenty three" as any number of days in a year
-year-fits : ℕ → Bool
-unfolding spaced word dictionary ones belowHundred belowThousand group numberCodes said
-year-fits n = leb (length (said n)) 27
-
-year-le : (n : ℕ) → n < 366 → length (said n) ≤ 27
-unfolding year-fits
-year-le n h = leb-true (length (said n)) 27 (below-at 366 year-fits tt n h)
-
 days-le : (n : ℕ) → n < 50_000 → length (said n) ≤ 50
 unfolding spaced word dictionary
 days-le n h =
@@ -141,22 +122,15 @@ days-le n h =
     (let k : n / 1_000 % 1_000 < 50 = omega arith in
     simp length-append (omega (arith, thousands-le (n / 1_000 % 1_000) k, thousand-le (n % 1_000) (omega arith)))))
 
--- with the days in at most k bytes
-parts-le : (s k : ℕ) → length (said (s / 86_400)) ≤ k → length (lasting s) ≤ k + 66
+pub duration-le : (s : ℕ) → s < 4_294_967_296 → length (lasting s) ≤ 116
 unfolding spaced word dictionary
-parts-le s k h =
+duration-le s h =
     rw (lasting-parts s)
     (simp length-append
     (omega (
       arith,
-      counted-le (s / 86_400) day days k 5 h (omega arith) (omega arith),
+      counted-le (s / 86_400) day days 50 5 (days-le (s / 86_400) (omega arith)) (omega arith) (omega arith),
       counted-le (s / 3_600 % 24) hour hours 13 6 (sixty-le (s / 3_600 % 24) (omega arith)) (omega arith) (omega arith),
       counted-le (s / 60 % 60) minute minutes 13 8 (sixty-le (s / 60 % 60) (omega arith)) (omega arith) (omega arith),
       counted-le (s % 60) second seconds 13 8 (sixty-le (s % 60) (omega arith)) (omega arith) (omega arith),
     )))
-
-pub duration-le : (s : ℕ) → s < 4_294_967_296 → length (lasting s) ≤ 116
-duration-le s h = parts-le s 50 (days-le (s / 86_400) (omega arith))
-
-pub lasting-le : (s : ℕ) → s ≤ 31_536_000 → length (lasting s) ≤ 93
-lasting-le s h = parts-le s 27 (year-le (s / 86_400) (omega arith))

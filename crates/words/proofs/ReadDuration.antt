@@ -45,7 +45,7 @@ no-count l e =
 
 -- ---- one count and its unit
 
--- a turn at a text that begins with the number n, up to the place e, and then the word w, whose code is u
+-- a turn at a text that begins with the number n, up to the offset e, and then the word w, whose code is u
 count-turn :
     (i s n e u y : ℕ) (l w rest : List ℕ)
     → numberAt 0 l ≡ quantity n e → wordAt (drop e l) ≡ w → codeOf w ≡ u → drop (e + (1 + length w)) l ≡ rest → unitSeconds u ≡ y → eqb y 0 ≡ false
@@ -62,13 +62,14 @@ read-count :
 read-count n u y i s rest h p z r =
     let w = code " " ∷ word u in
     let e = 0 + length (said n) in
-    let k = unit-range u (rw p z) in
-    let c = code-of-word u (k .1) in
-    let t = word-letters u (k .1) in
+    let f = unit-range u (rw p z) in
+    let c = code-of-word u (f .1) in
+    let t = word-letters u (f .1) in
     let j = append-assoc (said n) w rest in
-    let a = read-said n 0 (w ++ rest) h (ends-word (word u) rest t (rw c (le-ltb u 32 (k .0))) r) in
+    let a = read-said n 0 (w ++ rest) h (ends-word (word u) rest t (rw c (le-ltb u 32 (f .0))) r) in
     let b = ap wordAt (drop-at (said n) (w ++ rest) e (omega arith)) ∙ word-at (word u) rest t r in
-    let d = ap (drop (e + (1 + length (word u)))) (sym j) ∙ drop-at (said n ++ w) rest (e + (1 + length (word u))) (simp length-append (omega arith)) in
+    let k = e + (1 + length (word u)) in
+    let d = ap (drop k) (sym j) ∙ drop-at (said n ++ w) rest k (simp length-append (omega arith)) in
     rw (spaced-one u, j)
     (count-turn i s n e u y (said n ++ (w ++ rest)) (word u) rest a b c d p z
     ∙ ap (λ (m : ℕ). counts (length rest) (i + m) rest (kept (s + n * y))) (simp length-append (omega arith)))
@@ -106,6 +107,7 @@ read-duration s i rest l e =
     let h = spaced (counted nh hour hours) in
     let m = spaced (counted nm minute minutes) in
     let x = spaced (counted ns second seconds) in
+    let y = s / 3_600 * 3_600 in
     let id = i + length d in
     let ih = id + length h in
     let im = ih + length m in
@@ -115,8 +117,8 @@ read-duration s i rest l e =
     let rh = spaced-no-letter (counted nh hour hours) (m ++ (x ++ rest)) rm in
     simp (spaced-append, append-assoc)
     (read-counted day days 86_400 refl refl refl nd i 0 (nd * 86_400) (h ++ (m ++ (x ++ rest))) (omega arith) (omega arith) (omega arith) rh
-    ∙ read-counted hour hours 3_600 refl refl refl nh id (nd * 86_400) (s / 3_600 * 3_600) (m ++ (x ++ rest)) (omega arith) (omega arith) (omega arith) rm
-    ∙ read-counted minute minutes 60 refl refl refl nm ih (s / 3_600 * 3_600) (s / 60 * 60) (x ++ rest) (omega arith) (omega arith) (omega arith) rx
+    ∙ read-counted hour hours 3_600 refl refl refl nh id (nd * 86_400) y (m ++ (x ++ rest)) (omega arith) (omega arith) (omega arith) rm
+    ∙ read-counted minute minutes 60 refl refl refl nm ih y (s / 60 * 60) (x ++ rest) (omega arith) (omega arith) (omega arith) rx
     ∙ read-counted second seconds 1 refl refl refl ns im (s / 60 * 60) s rest (omega arith) (omega arith) (omega arith) r
     ∙ counts-stop (im + length x) rest s (no-count rest e)
     ∙ ap (quantity s) (simp length-append (omega arith)))

@@ -2,15 +2,15 @@
 use mathlib.Core.Path.{_≡_, refl, sym, ap, ap₂, _∙_}
 use mathlib.Core.Bool.{Bool, true, false, not}
 use mathlib.Core.List.{List, [], _∷_, _++_, append-assoc}
-use Prim.Native.Nat.{ℕ, suc, _+_, _≤_, _<_}
+use Prim.Native.Nat.{ℕ, suc, _+_, _<_}
 use Prim.Native.Char.{code}
 use native.Mathlib.Omega.{arith}
 use lib.Dec.{eqb}
 use lib.ListN.{length, drop, length-append}
 use lib.Seq.{take-at, drop-at}
-use borrow.Author.Tests.{lt-ltb, le-ltb, eqb-true, not-true}
+use borrow.Author.Tests.{lt-ltb, eqb-true, not-true}
 use Rattle.text.specs.Ascii.{ascii}
-use Rattle.text.specs.Logic.{by-test, and-left, and-right, below-at}
+use Rattle.text.specs.Logic.{by-test, and-left, and-right, clash, below-at}
 use Rattle.words.specs.declared.Groups.{Groups}
 use Rattle.words.specs.declared.Quantity.{Quantity}
 use Rattle.words.specs.Words.{dictionary, word, spaced, numberCodes, said, words}
@@ -20,9 +20,6 @@ use Rattle.words.proofs.Cases.{spaced-cons, codes-zero}
 use Rattle.words.proofs.Value.{steps, total-steps, NumberCodes, number-codes}
 
 -- ---- a word in a text
-
-pub no-letter : (b : ℕ) (l : List ℕ) → isLetter b ≡ false → letters (b ∷ l) ≡ 0
-no-letter b l e = rw e
 
 -- letters, and a text that begins with none
 pub letters-append : (w rest : List ℕ) → letters w ≡ length w → letters rest ≡ 0 → letters (w ++ rest) ≡ length w
@@ -76,23 +73,16 @@ ends-comma l = ends-byte (code ",") l refl refl
 pub ends-stop : (l : List ℕ) → endsNumber (code "." ∷ l) ≡ true
 ends-stop l = ends-byte (code ".") l refl refl
 
-pub ends-line : (l : List ℕ) → endsNumber (code "\n" ∷ l) ≡ true
-ends-line l = ends-byte (code "\n") l refl refl
-
 -- a space and a word that is no number word; a text that begins with no letter stands after it
-pub ends-word : (w rest : List ℕ) → letters w ≡ length w → isNumberWord (codeOf w) ≡ false → letters rest ≡ 0 → endsNumber (code " " ∷ (w ++ rest)) ≡ true
+pub ends-word :
+    (w rest : List ℕ) → letters w ≡ length w → isNumberWord (codeOf w) ≡ false → letters rest ≡ 0
+    → endsNumber (code " " ∷ (w ++ rest)) ≡ true
 unfolding endsNumber
 ends-word w rest e n z = rw (word-at w rest e z, n)
 
 pub ends-of : (rest : List ℕ) → letters rest ≡ 0 → endsNumber (ascii " of" ++ rest) ≡ true
 unfolding codeOf indexIn dictionary
 ends-of rest z = ends-word (ascii "of") rest refl refl z
-
-pub ends-unit : (u : ℕ) (rest : List ℕ) → 32 ≤ u → u < 40 → letters rest ≡ 0 → endsNumber (spaced (u ∷ []) ++ rest) ≡ true
-unfolding spaced
-ends-unit u rest a b z =
-    rw (append-assoc (word u) [] rest)
-    (ends-word (word u) rest (word-letters u b) (rw (code-of-word u b) (le-ltb u 32 a)) z)
 
 -- ---- reading what is said
 
@@ -119,7 +109,9 @@ read-spaced (w ∷ ws) i rest g p e =
     ∙ read-spaced ws (i + (1 + length (word w))) rest (step w g) (p .1) e
     ∙ ap (quantity (total (steps ws (step w g)))) (simp length-append (omega arith)))
 
-pub read-said : (n i : ℕ) (rest : List ℕ) → n < 4_294_967_296 → endsNumber rest ≡ true → numberAt i (said n ++ rest) ≡ record { value = n; end = i + length (said n) }
+pub read-said :
+    (n i : ℕ) (rest : List ℕ) → n < 4_294_967_296 → endsNumber rest ≡ true
+    → numberAt i (said n ++ rest) ≡ quantity n (i + length (said n))
 unfolding numberAt said
 read-said n i rest h e =
     read-spaced (numberCodes n) i rest nothing (number-codes n h) e
@@ -154,8 +146,7 @@ no-codes : (n : ℕ) → n < 4_294_967_296 → numberCodes n ≡ [] → ⊥
 unfolding steps
 no-codes n h e =
     let z : 0 ≡ n = rw e at (total-steps n h) in
-    let p : _≡_ {A = ℕ} 0 1 = sym (ap length e) ∙ ap length (codes-zero n (sym z)) in
-    omega arith
+    clash (sym (ap length e) ∙ ap length (codes-zero n (sym z)))
 
 pub said-cons : (n : ℕ) → n < 4_294_967_296 → said n ≡ code " " ∷ words n
 unfolding said words

@@ -11,7 +11,7 @@ use Rattle.text.specs.Logic.{by-test, below-at, eql, eql-true}
 use Rattle.words.specs.declared.Groups.{Groups}
 use Rattle.words.specs.declared.Quantity.{Quantity}
 use Rattle.words.specs.Words.{dictionary, word}
-use Rattle.words.specs.Reading.{wordAt, indexIn, codeOf, kept, isNumberWord, step, nothing, total, numberWords, numberAt, unitSeconds, countOf, unitWord, countLength, counts, durationAt}
+use Rattle.words.specs.Reading.{wordAt, indexIn, codeOf, kept, isNumberWord, step, nothing, total, numberWords, numberAt, unitSeconds, countOf, unitWord, countLength, counts}
 
 -- ---- the code of a word
 
@@ -27,7 +27,7 @@ index-le [] i w = omega arith
 index-le (d ∷ ds) i w =
     by-test (eql w d) (λ e. rw e (omega arith)) (λ e. rw e (omega (arith, index-le ds (suc i) w)))
 
--- the word at the place that was found
+-- the word at the index that was found
 index-word : (ds : List (List ℕ)) (i k : ℕ) (w : List ℕ) → k < length ds → indexIn ds i w ≡ i + k → w ≡ getD ds k []
 unfolding indexIn
 index-word [] i k w h e = absurd (omega arith)
@@ -92,7 +92,7 @@ number-word-within l e = word-within l (number-letter (wordAt l) e)
 
 -- ---- one turn of the number loop
 
--- a value and the place after it
+-- a value and the offset after it
 abbrev pub quantity : ℕ → ℕ → Quantity
 quantity v e = record { value = v; end = e }
 
@@ -120,7 +120,8 @@ module _ (i : ℕ) (l : List ℕ) (g : Groups) where
   pub number-on :
       isNumberWord (codeOf (wordAt l)) ≡ true
       → numberWords (length l) i l g
-      ≡ numberWords (length (drop (1 + length (wordAt l)) l)) (i + (1 + length (wordAt l))) (drop (1 + length (wordAt l)) l) (step (codeOf (wordAt l)) g)
+      ≡ numberWords (length (drop (1 + length (wordAt l)) l)) (i + (1 + length (wordAt l))) (drop (1 + length (wordAt l)) l)
+      (step (codeOf (wordAt l)) g)
   unfolding numberWords
   number-on e =
       let k = 1 + length (wordAt l) in
@@ -144,35 +145,25 @@ number-within (suc n) i l g =
     rw e (omega arith))
     (λ e. rw e (omega arith))
 
--- a reader whose end moves with the place of the text, k bytes further on
-moved :
-    (k : ℕ) (read : ℕ → Quantity)
-    → ((j : ℕ) → read j ≡ record { value = read 0 .value; end = j + read 0 .end })
-    → (i : ℕ) → read (i + k) ≡ record { value = read (0 + k) .value; end = i + read (0 + k) .end }
-moved k read h i =
-    let z = h (0 + k) in
-    h (i + k) ∙ ap₂ quantity (sym (ap (λ (x : Quantity). x .value) z)) (omega (arith, ap (λ (x : Quantity). x .end) z))
-
--- the place of the text only moves the end
-pub number-shift : (n i : ℕ) (l : List ℕ) (g : Groups) → numberWords n i l g ≡ record { value = numberWords n 0 l g .value; end = i + numberWords n 0 l g .end }
+-- the offset of the text only moves the end
+pub number-shift : (n i : ℕ) (l : List ℕ) (g : Groups) → numberWords n i l g ≡ quantity (numberWords n 0 l g .value) (i + numberWords n 0 l g .end)
 unfolding numberWords
 number-shift zero i l g = ap (quantity (total g)) (omega arith)
 number-shift (suc n) i l g =
     let k = 1 + length (wordAt l) in
     let r = drop k l in
     let s = step (codeOf (wordAt l)) g in
+    let z = number-shift n (0 + k) r s in
     by-test (isNumberWord (codeOf (wordAt l)))
-    (λ e. rw e (moved k (λ (j : ℕ). numberWords n j r s) (λ (j : ℕ). number-shift n j r s) i))
+    (λ e.
+    rw e
+    (number-shift n (i + k) r s
+    ∙ ap₂ quantity (sym (ap (λ (x : Quantity). x .value) z)) (omega (arith, ap (λ (x : Quantity). x .end) z))))
     (λ e. rw e (ap (quantity (total g)) (omega arith)))
 
-pub number-value : (n i : ℕ) (l : List ℕ) (g : Groups) → numberWords n i l g .value < 4_294_967_296
-unfolding numberWords
-number-value zero i l g = omega arith
-number-value (suc n) i l g =
-    let k = 1 + length (wordAt l) in
-    by-test (isNumberWord (codeOf (wordAt l)))
-    (λ e. rw e (number-value n (i + k) (drop k l) (step (codeOf (wordAt l)) g)))
-    (λ e. rw e (omega arith))
+pub number-at-shift : (i : ℕ) (l : List ℕ) → numberAt i l ≡ quantity (numberAt 0 l .value) (i + numberAt 0 l .end)
+unfolding numberAt
+number-at-shift i l = number-shift (length l) i l nothing
 
 -- ---- one turn of the duration loop
 
@@ -204,7 +195,8 @@ module _ (i : ℕ) (l : List ℕ) (s : ℕ) where
   pub counts-on :
       eqb (unitSeconds (codeOf (unitWord l))) 0 ≡ false
       → counts (length l) i l s
-      ≡ counts (length (drop (countLength l) l)) (i + countLength l) (drop (countLength l) l) (kept (s + countOf l * unitSeconds (codeOf (unitWord l))))
+      ≡ counts (length (drop (countLength l) l)) (i + countLength l) (drop (countLength l) l)
+      (kept (s + countOf l * unitSeconds (codeOf (unitWord l))))
   unfolding counts
   counts-on e =
       let k = countLength l in
@@ -217,63 +209,3 @@ module _ (i : ℕ) (l : List ℕ) (s : ℕ) where
   pub counts-stop : eqb (unitSeconds (codeOf (unitWord l))) 0 ≡ true → counts (length l) i l s ≡ record { value = s; end = i }
   unfolding counts
   counts-stop e = counts-enough (length l) (suc (length l)) i l s (omega arith) (omega arith) ∙ rw e
-
-pub counts-within : (n i : ℕ) (l : List ℕ) (s : ℕ) → (i ≤ counts n i l s .end) × (counts n i l s .end ≤ i + length l)
-unfolding counts
-counts-within zero i l s = omega arith
-counts-within (suc n) i l s =
-    let k = countLength l in
-    by-test (eqb (unitSeconds (codeOf (unitWord l))) 0)
-    (λ e. rw e (omega arith))
-    (λ e.
-    let h = count-within l e in
-    let ih = simp length-drop at (counts-within n (i + k) (drop k l) (kept (s + countOf l * unitSeconds (codeOf (unitWord l))))) in
-    rw e (omega arith))
-
-pub counts-shift : (n i : ℕ) (l : List ℕ) (s : ℕ) → counts n i l s ≡ record { value = counts n 0 l s .value; end = i + counts n 0 l s .end }
-unfolding counts
-counts-shift zero i l s = ap (quantity s) (omega arith)
-counts-shift (suc n) i l s =
-    let k = countLength l in
-    let r = drop k l in
-    let t = kept (s + countOf l * unitSeconds (codeOf (unitWord l))) in
-    by-test (eqb (unitSeconds (codeOf (unitWord l))) 0)
-    (λ e. rw e (ap (quantity s) (omega arith)))
-    (λ e. rw e (moved k (λ (j : ℕ). counts n j r t) (λ (j : ℕ). counts-shift n j r t) i))
-
-pub counts-value : (n i : ℕ) (l : List ℕ) (s : ℕ) → s < 4_294_967_296 → counts n i l s .value < 4_294_967_296
-unfolding counts
-counts-value zero i l s h = h
-counts-value (suc n) i l s h =
-    let k = countLength l in
-    let t = kept (s + countOf l * unitSeconds (codeOf (unitWord l))) in
-    by-test (eqb (unitSeconds (codeOf (unitWord l))) 0)
-    (λ e. rw e h)
-    (λ e. rw e (counts-value n (i + k) (drop k l) t (omega arith)))
-
--- ---- a number and a duration that lead a text
-
-module _ (i : ℕ) (l : List ℕ) where
-  pub number-at-within : (i ≤ numberAt i l .end) × (numberAt i l .end ≤ i + length l)
-  unfolding numberAt
-  number-at-within = number-within (length l) i l nothing
-
-  pub number-at-shift : numberAt i l ≡ record { value = numberAt 0 l .value; end = i + numberAt 0 l .end }
-  unfolding numberAt
-  number-at-shift = number-shift (length l) i l nothing
-
-  pub number-at-value : numberAt i l .value < 4_294_967_296
-  unfolding numberAt
-  number-at-value = number-value (length l) i l nothing
-
-  pub duration-at-within : (i ≤ durationAt i l .end) × (durationAt i l .end ≤ i + length l)
-  unfolding durationAt
-  duration-at-within = counts-within (length l) i l 0
-
-  pub duration-at-shift : durationAt i l ≡ record { value = durationAt 0 l .value; end = i + durationAt 0 l .end }
-  unfolding durationAt
-  duration-at-shift = counts-shift (length l) i l 0
-
-  pub duration-at-value : durationAt i l .value < 4_294_967_296
-  unfolding durationAt
-  duration-at-value = counts-value (length l) i l 0 (omega arith)

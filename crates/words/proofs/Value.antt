@@ -113,7 +113,8 @@ steps-some n h z =
     let tm = tb + m * 1_000_000 in
     let tk = tm + k * 1_000 in
     rw (ne-eqb n 0 z)
-    (group-then b billion 0 (b * 1_000_000_000) (group m million ++ (group k thousand ++ u)) (omega arith) (omega arith) refl (λ e. omega arith) (omega arith)
+    (group-then b billion 0 (b * 1_000_000_000) (group m million ++ (group k thousand ++ u)) (omega arith) (omega arith) refl (λ e. omega arith)
+    (omega arith)
     ∙ group-then m million tb (m * 1_000_000) (group k thousand ++ u) (omega arith) (omega arith) refl (λ e. omega arith) (omega arith)
     ∙ group-then k thousand tm (k * 1_000) u (omega arith) (omega arith) refl (λ e. omega arith) (omega arith)
     ∙ steps-thousand (n % 1_000) tk (omega arith)

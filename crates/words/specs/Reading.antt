@@ -1,4 +1,5 @@
--- Reading numbers and durations from their words. Any text may be read: where nobody wrote it as a number, what is read is some number whose words differ from the text.
+-- Reading numbers and durations from their words. Any text may be read: where nobody wrote it as a number, what is read is some number whose words
+-- differ from the text.
 -- Sums are kept below 2^32, the size of the numbers that can be said.
 use mathlib.Core.Bool.{Bool, true, cond, not, _&&_}
 use mathlib.Core.List.{List, [], _∷_}
@@ -27,7 +28,7 @@ unfoldable pub wordAt : List ℕ → List ℕ
 wordAt [] = []
 wordAt (b ∷ l) = cond (eqb b (code " ")) (take (letters l) l) []
 
--- the place of a word in a list of words, counted from i; after the last where it isn't there
+-- the index of a word in a list of words, counted from i; after the last where it isn't there
 unfoldable pub indexIn : List (List ℕ) → ℕ → List ℕ → ℕ
 indexIn [] i w = i
 indexIn (d ∷ ds) i w = cond (eql w d) i (indexIn ds (suc i) w)
@@ -67,7 +68,7 @@ nothing = record { sum = 0; current = 0 }
 abbrev pub total : Groups → ℕ
 total g = kept (g .sum + g .current)
 
--- the number whose words lead the text l, which stands at place i: as many words as are number words. n bounds their number.
+-- the number whose words lead the text l, at offset i: as many words as are number words. n bounds their number.
 unfoldable pub numberWords : ℕ → ℕ → List ℕ → Groups → Quantity
 numberWords zero i l g = record { value = total g; end = i }
 numberWords (suc n) i l g =
@@ -103,7 +104,7 @@ unitWord l = wordAt (drop (numberAt 0 l .end) l)
 abbrev pub countLength : List ℕ → ℕ
 countLength l = numberAt 0 l .end + (1 + length (unitWord l))
 
--- the seconds whose words lead the text l, which stands at place i: as many counts as have a unit after them. s: those before; n bounds their number.
+-- the seconds whose words lead the text l, at offset i: as many counts as have a unit after them. s: those before; n bounds their number.
 unfoldable pub counts : ℕ → ℕ → List ℕ → ℕ → Quantity
 counts zero i l s = record { value = s; end = i }
 counts (suc n) i l s =

@@ -7,7 +7,7 @@ pub struct Groups {
     pub current: u64,
 }
 
-// A number that was read, and the place after its last word.
+// A number that was read, and the offset after its last word.
 pub struct Quantity {
     pub value: u32,
     pub end: usize,

@@ -8,9 +8,7 @@ use Rattle.text.proofs.part.Tie as tie
 use Rattle.text.proofs.part.Statement.{statement}
 
 returns-2 : tie.Need-returns-2
-returns-2 c =
-    c .first .ensures ∙ ap (take (c .before .before .before .before .args .until - c .before .before .before .before .args .from))
-    (c .before .skip .ensures)
+returns-2 c = let s = c .before .before .before .before in c .first .ensures ∙ ap (take (s .args .until - s .args .from)) (c .before .skip .ensures)
 
 pub part-spec : {M : Type 1} → statement M
 part-spec =

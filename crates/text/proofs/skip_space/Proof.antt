@@ -19,8 +19,10 @@ pub skip-space-spec : {M : Type 1} → statement M
 skip-space-spec =
     tie.close
     (tie.spec Inv-loop μ-loop (λ c. refl) (λ c. search needs) (λ c κs. search needs) (λ c. omega arith) (λ c. omega arith)
-    (λ c. run-on isSpace _ _ _ (c .before .before .before .before .loop .inv) (c .before .before .before .loop-test .taken)
-    (c .before .is-space .ensures) (c .if1 .taken))
-    (λ c. run-stop isSpace _ _ _ (c .before .before .before .before .loop .inv) (c .before .before .before .loop-test .taken)
-    (c .before .is-space .ensures) (c .if1 .left))
+    (λ c.
+    let t = c .before .before .before in
+    run-on isSpace _ _ _ (t .before .loop .inv) (t .loop-test .taken) (c .before .is-space .ensures) (c .if1 .taken))
+    (λ c.
+    let t = c .before .before .before in
+    run-stop isSpace _ _ _ (t .before .loop .inv) (t .loop-test .taken) (c .before .is-space .ensures) (c .if1 .left))
     (λ c. run-end isSpace _ _ _ (c .before .loop .inv) (c .loop-test .left)))

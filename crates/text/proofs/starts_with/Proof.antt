@@ -16,12 +16,11 @@ abbrev μ-loop : tie.MeasureT-loop
 
 returns-2 : tie.Need-returns-2 Inv-loop μ-loop
 returns-2 c =
-    sym (starts-differ _ _ _ (c .before .before .before .loop-test .taken) (omega arith) (c .if2 .taken))
-    ∙ c .before .before .before .before .loop .inv
+    let t = c .before .before .before in sym (starts-differ _ _ _ (t .loop-test .taken) (omega arith) (c .if2 .taken)) ∙ t .before .loop .inv
 
 loop-again : tie.Need-loop-again Inv-loop μ-loop
 loop-again c =
-    sym (starts-on _ _ _ (c .before .before .before .loop-test .taken) (omega arith) (c .if2 .left)) ∙ c .before .before .before .before .loop .inv
+    let t = c .before .before .before in sym (starts-on _ _ _ (t .loop-test .taken) (omega arith) (c .if2 .left)) ∙ t .before .loop .inv
 
 pub starts-with-spec : {M : Type 1} → statement M
 starts-with-spec =

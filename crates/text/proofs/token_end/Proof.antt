@@ -21,9 +21,12 @@ pub token-end-spec : {M : Type 1} → statement M
 token-end-spec =
     tie.close
     (tie.spec Inv-loop μ-loop (λ c. refl) (λ c. search needs) (λ c κs. search needs)
-    (λ c. run-stop (λ b. not (isSpace b)) _ _ _ (c .before .before .before .before .loop .inv) (c .before .before .before .loop-test .taken)
-    (ap not (c .before .is-space .ensures)) (ap not (c .if1 .taken)))
+    (λ c.
+    let t = c .before .before .before in
+    run-stop (λ b. not (isSpace b)) _ _ _ (t .before .loop .inv) (t .loop-test .taken) (ap not (c .before .is-space .ensures))
+    (ap not (c .if1 .taken)))
     (λ c. omega arith) (λ c. omega arith)
-    (λ c. run-on (λ b. not (isSpace b)) _ _ _ (c .before .before .before .before .loop .inv) (c .before .before .before .loop-test .taken)
-    (ap not (c .before .is-space .ensures)) (ap not (c .if1 .left)))
+    (λ c.
+    let t = c .before .before .before in
+    run-on (λ b. not (isSpace b)) _ _ _ (t .before .loop .inv) (t .loop-test .taken) (ap not (c .before .is-space .ensures)) (ap not (c .if1 .left)))
     (λ c. run-end (λ b. not (isSpace b)) _ _ _ (c .before .loop .inv) (c .loop-test .left)))

@@ -1,11 +1,11 @@
 -- Before each turn the run of letters from i on ends where the one from the start does.
-use mathlib.Core.Path.{_≡_, refl, sym, _∙_}
-use Prim.Native.Nat.{_+_, _-_}
 use native.Mathlib.Omega.{arith}
-use lib.ListN.{length, drop}
 use borrow.Author.Needs.{needs}
-use Rattle.words.specs.Reading.{letters}
-use Rattle.spoken.proofs.Letters.{letters-on, letters-stop, letters-end}
+use Prim.Native.Nat.{_+_, _-_}
+use mathlib.Core.Path.{_≡_, refl}
+use lib.ListN.{length, drop}
+use Rattle.text.proofs.Runs.{run-on, run-stop, run-end}
+use Rattle.words.specs.Reading.{isLetter, letters}
 use Rattle.spoken.proofs.reading.word_end.Statement.{statement}
 use Rattle.spoken.proofs.reading.word_end.Tie as tie
 
@@ -17,19 +17,16 @@ abbrev μ-loop : tie.MeasureT-loop
 
 loop-again : tie.Need-loop-again Inv-loop μ-loop
 loop-again c =
-    sym (letters-on _ _ (c .before .before .before .loop-test .taken) (sym (c .before .is-letter .ensures) ∙ c .if1 .taken))
-    ∙ c .before .before .before .before .loop .inv
+    let t = c .before .before .before in
+    run-on isLetter _ _ _ (t .before .loop .inv) (t .loop-test .taken) (c .before .is-letter .ensures) (c .if1 .taken)
 
 returns : tie.Need-returns Inv-loop μ-loop
 returns c =
-    sym (letters-stop _ _ (c .before .before .before .loop-test .taken) (sym (c .before .is-letter .ensures) ∙ c .if1 .left))
-    ∙ c .before .before .before .before .loop .inv
-
-returns-2 : tie.Need-returns-2 Inv-loop μ-loop
-returns-2 c = sym (letters-end _ _ (c .loop-test .left)) ∙ c .before .loop .inv
+    let t = c .before .before .before in
+    run-stop isLetter _ _ _ (t .before .loop .inv) (t .loop-test .taken) (c .before .is-letter .ensures) (c .if1 .left)
 
 pub word-end-spec : {M : Type 1} → statement M
 word-end-spec =
     tie.close
-    (tie.spec Inv-loop μ-loop (λ c. refl) (λ c. c .before .loop-test .taken) (λ c κs. search needs) (λ c. omega arith) (λ c. omega arith) loop-again
-    returns returns-2)
+    (tie.spec Inv-loop μ-loop (λ c. refl) (λ c. search needs) (λ c κs. search needs) (λ c. omega arith) (λ c. omega arith) loop-again returns
+    (λ c. run-end isLetter _ _ _ (c .before .loop .inv) (c .loop-test .left)))
