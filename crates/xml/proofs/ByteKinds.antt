@@ -1,9 +1,8 @@
 -- Bytes by their kind: what one computed test over bytes says of each of them, for any masks that pass it; what a byte of a kind is not.
 use mathlib.Core.Path.{_≡_, sym, ap, _∙_}
 use mathlib.Core.Bool.{Bool, true, false, cond, not, _&&_, false≢true}
-use Prim.Native.Nat.{ℕ, _+_, _-_, _/_, _^_, _≤_, _<_}
+use Prim.Native.Nat.{ℕ, _+_, _/_, _^_, _<_}
 use Prim.Native.Char.{code}
-use native.Mathlib.Omega.{arith}
 use lib.Bits.{bitAnd}
 use lib.Dec.{T, eqb}
 use borrow.Author.Tests.{ne-eqb, not-true}
@@ -30,11 +29,10 @@ tag-all p r t b h e = agree-same r (isTagByte b) (rw e at (below-at 256 (λ (k :
 
 -- a mask is right for the 64 bytes from first on
 pub tag-bit :
-    (mask first : ℕ) → T (below 64 (λ (i : ℕ). agree (isSet mask i) (isTagByte (first + i))))
-    → (b : ℕ) → first ≤ b → b < first + 64 → isSet mask (b - first) ≡ isTagByte b
-tag-bit mask first t b g h =
-    let z : first + (b - first) ≡ b = omega arith in
-    agree-same _ _ (below-at 64 (λ (i : ℕ). agree (isSet mask i) (isTagByte (first + i))) t (b - first) (omega arith)) ∙ ap isTagByte z
+    (mask first : ℕ) → T (below 64 (λ (k : ℕ). agree (isSet mask k) (isTagByte (first + k))))
+    → (i b : ℕ) → i < 64 → first + i ≡ b → isSet mask i ≡ isTagByte b
+tag-bit mask first t i b h e =
+    agree-same _ _ (below-at 64 (λ (k : ℕ). agree (isSet mask k) (isTagByte (first + k))) t i h) ∙ ap isTagByte e
 
 -- ---- what a byte of a kind is not
 
