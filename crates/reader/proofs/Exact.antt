@@ -1,4 +1,4 @@
--- What was found at a place is the read-back that stands there exactly where its sentence, written into an array of one's own, leads the text from there on.
+-- What was found at an offset is the read-back that stands there exactly where its sentence, in an array of its own, leads the text there.
 use mathlib.Core.Path.{_≡_, sym, ap, ap₂, _∙_}
 use mathlib.Core.Bool.{Bool, true, false}
 use mathlib.Core.List.{List}
@@ -79,7 +79,7 @@ module _ (d : List ℕ) (x : Sheet) (big : 1_024 ≤ length d) where
       (λ r. clash (cc (sheet-in-range r .0)))
       (λ r. clash (cc (refuse-range d 0 x r .0)))
 
--- ---- the line at a place, from what was found there
+-- ---- the line at an offset, from what was found there
 
 module _ (t : List ℕ) (at : ℕ) (f : Found) (q : f ≡ foundAt at (drop at t)) where
   sheet-is : sheetIn t f ≡ sheetOf (drop at t)

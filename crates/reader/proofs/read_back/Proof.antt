@@ -1,4 +1,4 @@
--- Before each turn the answer from the place i on, with n read-backs before it, is the answer to the whole text.
+-- Before each turn the answer from the offset i on, with n read-backs before it, is the answer to the whole text.
 use mathlib.Core.Path.{_≡_, sym, ap, _∙_}
 use Prim.Native.Nat.{_+_, _-_, _≤_, _<_}
 use native.Mathlib.Omega.{arith}

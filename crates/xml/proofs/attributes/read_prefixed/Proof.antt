@@ -1,4 +1,4 @@
--- The two tests are the definition's, as comparisons of places.
+-- The two tests are the definition's, as comparisons of offsets.
 use Prim.Native.Nat.{_-_}
 use native.Mathlib.Omega.{arith}
 use borrow.Author.Needs.{needs}

@@ -1,4 +1,4 @@
--- From each place on, after bytes without a fault, the comment is what it is from the start on.
+-- From each offset on, after bytes without a fault, the comment is what it is from the start on.
 use mathlib.Core.Path.{_≡_, refl, ap₂}
 use mathlib.Core.Bool.{_||_}
 use Prim.Native.Nat.{_-_}

@@ -1,4 +1,4 @@
--- From each place on p stands somewhere if it does from the start on.
+-- From each offset on p stands somewhere if it does from the start on.
 use mathlib.Core.Path.{_≡_, refl}
 use Prim.Native.Nat.{_-_}
 use native.Mathlib.Omega.{arith}

@@ -1,4 +1,4 @@
--- From each place on, after bytes without a fault, the declaration is what it is from the start on.
+-- From each offset on, after bytes without a fault, the declaration is what it is from the start on.
 use mathlib.Core.Path.{_≡_, refl}
 use Prim.Native.Nat.{_-_}
 use native.Mathlib.Omega.{arith}

@@ -1,4 +1,4 @@
--- From each place on, in the quote that is open there, the tag ends where it ends from the start on.
+-- From each offset on, in the quote that is open there, the tag ends where it ends from the start on.
 use mathlib.Core.Path.{_≡_, refl, sym, _∙_}
 use Prim.Native.Nat.{_-_}
 use native.Mathlib.Omega.{arith}

@@ -1,4 +1,4 @@
--- From each place on, after plain bytes and others without a fault, the text is what it is from the start on.
+-- From each offset on, after plain bytes and others without a fault, the text is what it is from the start on.
 use mathlib.Core.Path.{_≡_, _∙_}
 use Prim.Native.Nat.{_-_}
 use native.Mathlib.Omega.{arith}
