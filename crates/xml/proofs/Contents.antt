@@ -42,7 +42,9 @@ module _ (s : List ℕ) (i : ℕ) where
   end-is h = rw (drop-next s i h) (and-comm true (eqb (getD s i 0) (code "<")))
 
 -- a plain byte is no fault, whatever follows, and doesn't end a text
-plain-on : (i b : ℕ) (m : List ℕ) → isPlain b ≡ true → upTo (startsWith (ascii "<")) isFault i (b ∷ m) ≡ upTo (startsWith (ascii "<")) isFault (i + 1) m
+plain-on :
+    (i b : ℕ) (m : List ℕ) → isPlain b ≡ true
+    → upTo (startsWith (ascii "<")) isFault i (b ∷ m) ≡ upTo (startsWith (ascii "<")) isFault (i + 1) m
 unfolding isFault startsWith
 plain-on i b m e =
     rw (other-byte isPlain b (code "<") refl e, plain-no-control b e, other-byte isPlain b (code "&") refl e, other-byte isPlain b (code "]") refl e)
@@ -79,7 +81,9 @@ turned : (c x y z : Bool) → c && x && y && z ≡ x && (y && (z && c))
 turned c x y z = simp and-assoc (and-comm c (x && (y && z)) ∙ simp and-assoc)
 
 -- a block is plain if it holds no "<", no "&", no "]" and no control byte
-pub plain-block : (l : List ℕ) → block isPlain l ≡ block (other (code "<")) l && (block (other (code "&")) l && (block (other (code "]")) l && block (λ b. not (isControl b)) l))
+pub plain-block :
+    (l : List ℕ)
+    → block isPlain l ≡ block (other (code "<")) l && (block (other (code "&")) l && (block (other (code "]")) l && block (λ b. not (isControl b)) l))
 plain-block l =
     run-both (λ b. not (isControl b) && other (code "<") b && other (code "&") b) (other (code "]")) 16 l
     ∙ rw (run-both (λ b. not (isControl b) && other (code "<") b) (other (code "&")) 16 l, run-both (λ b. not (isControl b)) (other (code "<")) 16 l)

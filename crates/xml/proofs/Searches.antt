@@ -89,5 +89,7 @@ module _ (end fault : List ℕ → Bool) where
     faults-within p q = let w = subst (Lies at (drop at l)) q (lies at (drop at l)) in (w .0, omega (arith, w .1, length-drop at l))
 
 -- what ends with p holds it inside the document
-pub ends-with : (p : List ℕ) (fault : List ℕ → Bool) (l : List ℕ) (at e : ℕ) → 0 < length p → upTo (startsWith p) fault at (drop at l) ≡ Clean e → (at ≤ e) × (e + length p ≤ length l)
+pub ends-with :
+    (p : List ℕ) (fault : List ℕ → Bool) (l : List ℕ) (at e : ℕ) → 0 < length p
+    → upTo (startsWith p) fault at (drop at l) ≡ Clean e → (at ≤ e) × (e + length p ≤ length l)
 ends-with p fault l at e h q = let w = ends-within (startsWith p) fault l at e q in (w .0, starts-at-le p l e h (w .2))

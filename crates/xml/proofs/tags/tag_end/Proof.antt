@@ -19,7 +19,9 @@ returns : tie.Need-returns Inv-loop μ-loop
 returns c = sym (tag-stop _ _ _ (c .before .before .loop-test .taken) (c .if1 .taken)) ∙ c .before .before .before .loop .inv
 
 loop-again : tie.Need-loop-again Inv-loop μ-loop
-loop-again c = sym (tag-on _ _ _ _ (c .before .before .before .loop-test .taken) (c .before .if1 .left) (c .quote-after .ensures)) ∙ c .before .before .before .before .loop .inv
+loop-again c =
+    sym (tag-on _ _ _ _ (c .before .before .before .loop-test .taken) (c .before .if1 .left) (c .quote-after .ensures))
+    ∙ c .before .before .before .before .loop .inv
 
 returns-2 : tie.Need-returns-2 Inv-loop μ-loop
 returns-2 c = sym (tag-none _ _ _ (c .loop-test .left)) ∙ c .before .loop .inv
