@@ -29,14 +29,14 @@ use Rattle.reader.specs.Pieces.{capAt}
 
 -- ---- the kind of a sheet
 
-module _ (i : ℕ) (l : List ℕ) (r : Bool) (e : r ≡ startsWith (ascii "warn") l) where
-  pub found-warn : r ≡ true → (w : WarnFacts) → w ≡ warnOf l → found.Warn w ≡ foundAt i l
+module _ (i : ℕ) (l : List ℕ) {r : Bool} (e : r ≡ startsWith (ascii "warn") l) where
+  pub found-warn : r ≡ true → {w : WarnFacts} → w ≡ warnOf l → found.Warn w ≡ foundAt i l
   unfolding foundAt
-  found-warn b w q = rw (sym e ∙ b) (ap found.Warn q)
+  found-warn b q = rw (sym e ∙ b) (ap found.Warn q)
 
-  pub found-cap : r ≡ false → (f : Found) → f ≡ capAt i l → f ≡ foundAt i l
+  pub found-cap : r ≡ false → {f : Found} → f ≡ capAt i l → f ≡ foundAt i l
   unfolding foundAt
-  found-cap b f q = rw (sym e ∙ b) q
+  found-cap b q = rw (sym e ∙ b) q
 
 -- ---- the answer to a write over the front of a buffer of 1,024 bytes, which has room for every sentence
 
@@ -50,22 +50,22 @@ module _ (d : List ℕ) (x : Sheet) (big : 1_024 ≤ length d) where
     pub room : n ≤ length (after d 0 x)
     pub bytes : take n (after d 0 x) ≡ sentence x
 
-  ended : (n : ℕ) → writeSheet d 0 x ≡ End n → inRange x ≡ true → Ended n
-  ended n e r =
+  ended : {n : ℕ} → writeSheet d 0 x ≡ End n → inRange x ≡ true → Ended n
+  ended {n} e r =
       let w = sheet-in-range r in
       let s : n ≡ length (sentence x) = cc (w .0, zero-add (length (sentence x))) in
       let h = length-written d 0 (sentence x) (omega (arith, sentence-le x r)) in
       let f = part-written d 0 (sentence x) zero-le in
       record { range = r; size = s; room = rw (w .1, h, s) (omega (arith, sentence-le x r)); bytes = ap₂ take s (w .1) ∙ f }
 
-  sheet-end : (n : ℕ) → writeSheet d 0 x ≡ End n → Ended n
-  sheet-end n e =
+  sheet-end : {n : ℕ} → writeSheet d 0 x ≡ End n → Ended n
+  sheet-end e =
       by-test (inRange x)
-      (ended n e)
+      (ended e)
       (λ r. clash (cc (refuse-range d 0 x r .0)))
 
-  pub room-for : (n : ℕ) (b : List ℕ) → writeSheet d 0 x ≡ End n → b ≡ after d 0 x → n ≤ length b
-  room-for n b e w = rw w (sheet-end n e .room)
+  pub room-for : {n : ℕ} {b : List ℕ} → writeSheet d 0 x ≡ End n → b ≡ after d 0 x → n ≤ length b
+  room-for e w = rw w (sheet-end e .room)
 
   sheet-out-of-range : writeSheet d 0 x ≡ OutOfRange → inRange x ≡ false
   sheet-out-of-range e =
@@ -81,15 +81,16 @@ module _ (d : List ℕ) (x : Sheet) (big : 1_024 ≤ length d) where
 
 -- ---- the line at an offset, from what was found there
 
-module _ (t : List ℕ) (at : ℕ) (f : Found) (q : f ≡ foundAt at (drop at t)) where
+module _ (t : List ℕ) (at : ℕ) {f : Found} (q : f ≡ foundAt at (drop at t)) where
   sheet-is : sheetIn t f ≡ sheetOf (drop at t)
   sheet-is = ap (sheetIn t) q ∙ found-at at t
 
   module _ (d : List ℕ) (big : 1_024 ≤ length d) where
     -- the sentence's n bytes are the first of b, and r says whether they lead the text there
-    module _ (n : ℕ) (e : writeSheet d 0 (sheetIn t f) ≡ End n) (b : List ℕ) (w : b ≡ after d 0 (sheetIn t f)) (r : Bool) (s : r ≡ startsWith (take n b) (drop at t)) where
+    module _ {n : ℕ} {b : List ℕ} {r : Bool} (e : writeSheet d 0 (sheetIn t f) ≡ End n) (w : b ≡ after d 0 (sheetIn t f))
+        (s : r ≡ startsWith (take n b) (drop at t)) where
       end-is : Ended d (sheetIn t f) big n
-      end-is = sheet-end d (sheetIn t f) big n e
+      end-is = sheet-end d (sheetIn t f) big e
 
       line-test : isLine (drop at t) ≡ r
       unfolding isLine
@@ -114,14 +115,16 @@ module _ (t : List ℕ) (at : ℕ) (f : Found) (q : f ≡ foundAt at (drop at t)
 
 -- ---- writing what was found
 
-module _ (t : List ℕ) (g : Found) where
-  pub sheet-cap : (f : CapFacts) (s n : Span) (a b : List ℕ) → g ≡ found.Cap f s n → a ≡ spanIn t s → b ≡ spanIn t n → cap f a b ≡ sheetIn t g
+module _ (t : List ℕ) {g : Found} where
+  pub sheet-cap : {f : CapFacts} {s n : Span} {a b : List ℕ} → g ≡ found.Cap f s n → a ≡ spanIn t s → b ≡ spanIn t n → cap f a b ≡ sheetIn t g
   unfolding sheetIn
-  sheet-cap f s n a b e p q = ap₂ (cap f) p q ∙ sym (ap (sheetIn t) e)
+  sheet-cap {f} e p q = ap₂ (cap f) p q ∙ sym (ap (sheetIn t) e)
 
-  pub sheet-warn : (f : WarnFacts) → g ≡ found.Warn f → warn f ≡ sheetIn t g
+  pub sheet-warn : {f : WarnFacts} → g ≡ found.Warn f → warn f ≡ sheetIn t g
   unfolding sheetIn
-  sheet-warn f e = sym (ap (sheetIn t) e)
+  sheet-warn e = sym (ap (sheetIn t) e)
 
-pub same-answer : (d e : List ℕ) (r : WriteSheet) (x y : Sheet) → x ≡ y → (r ≡ writeSheet d 0 x) × (e ≡ after d 0 x) → (r ≡ writeSheet d 0 y) × (e ≡ after d 0 y)
-same-answer d e r x y q p = (p .0 ∙ ap (writeSheet d 0) q, p .1 ∙ ap (after d 0) q)
+pub same-answer :
+    (d : List ℕ) {e : List ℕ} {r : WriteSheet} {x y : Sheet} → x ≡ y
+    → (r ≡ writeSheet d 0 x) × (e ≡ after d 0 x) → (r ≡ writeSheet d 0 y) × (e ≡ after d 0 y)
+same-answer d q p = (p .0 ∙ ap (writeSheet d 0) q, p .1 ∙ ap (after d 0) q)

@@ -18,8 +18,8 @@ use Rattle.sheet.proofs.ReadLoop.{resumed, loop-other, loop-found, loop-stop}
 abbrev pub answerFrom : List ℕ → ℕ → ℕ → ℕ → ℕ → ReadBack
 answerFrom t k i n a = resumed k n (foundAt a (drop a t)) (contentsAt t i)
 
-module _ (t : List ℕ) (i : ℕ) (r : Line) (q : r ≡ lineAt i (drop i t)) where
-  module _ (f : Found) (size : ℕ) (e : r ≡ line.Sentence f size) where
+module _ (t : List ℕ) (i : ℕ) {r : Line} (q : r ≡ lineAt i (drop i t)) where
+  module _ {f : Found} {size : ℕ} (e : r ≡ line.Sentence f size) where
     is : IsLine i (drop i t) f size
     is = line-is i (drop i t) f size (sym q ∙ e)
 
