@@ -1,4 +1,4 @@
--- What holds of every step: where it goes on, what its event says of the schema and of a text, or where it refuses. One walk along the cases of a step.
+-- What holds of every step: where it goes on, what its event says of the schema and of a text, or where it refuses. One walk along a step's cases.
 use mathlib.Core.Path.{_≡_, refl, sym, ap, subst}
 use mathlib.Core.Bool.{Bool, true, false, cond, not, _||_, false≢true}
 use mathlib.Core.List.{List, []}

@@ -1,4 +1,4 @@
--- The texts of an accepted document: each keeps to its class's rule, is the part of the document that its offset and length say, and has no fault of form.
+-- Each text of an accepted document keeps to its class's rule, is the part of the document that its offset and length say, and has no fault of form.
 use mathlib.Core.Path.{_≡_, sym, ap}
 use mathlib.Core.Bool.{false}
 use mathlib.Core.List.{List}

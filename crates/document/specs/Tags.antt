@@ -35,7 +35,7 @@ moved m at state leaf =
 
 -- ---- names
 
--- "every tag then carries that prefix, or none": a tag's name after the document's prefix; empty, which no element is called, where it doesn't carry it
+-- "every tag then carries that prefix, or none": a tag's name after the document's prefix; empty, which no element is called, where it lacks it
 abbrev pub afterPrefix : List ℕ → List ℕ → List ℕ
 afterPrefix [] name = name
 afterPrefix (b ∷ p) name = cond (startsWith ((b ∷ p) ++ ascii ":") name) (drop (length (b ∷ p) + 1) name) []
