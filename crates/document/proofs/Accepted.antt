@@ -18,7 +18,7 @@ use Rattle.document.proofs.Runs.{first-holds}
 module _ (l : List ℕ) (Q : Mode → List Element → Type 0)
     (last : (m : Mode) → stepOf l m ≡ Done → Q m [])
     (front : (m m′ : Mode) (e : Event) (es : List Element) → stepOf l m ≡ Next m′ e → Q m′ es → Q m (elementsOf l e ++ es)) where
-  -- of a verdict from a mode on: of its elements, or its place lies in the document or at its length
+  -- of a verdict from a mode on: of its elements, or its offset lies in the document or at its length
   abbrev VerdictHolds : Mode → Verdict → Type 0
   VerdictHolds m (accepted es) = Q m es
   VerdictHolds m (refused n p) = p ≤ length l
@@ -55,7 +55,7 @@ module _ (l : List ℕ) (Q : Mode → List Element → Type 0)
   pub accepted-holds : (es : List Element) → documentOf l ≡ accepted es → (at : ℕ) × Q (begin at) es
   accepted-holds es d = subst DocumentHolds d document-holds
 
--- every refusal's place lies in the document or at its length
+-- every refusal's offset lies in the document or at its length
 pub offset-within : (l : List ℕ) (n p : ℕ) → documentOf l ≡ refused n p → p ≤ length l
 offset-within l n p d =
     let All : Mode → List Element → Type 0 = λ m es. Prim.Unit in

@@ -1,4 +1,4 @@
--- What holds of every step: where it goes on, what its event says of the schema and of a text, or where it refuses. One walk along the cases of a step.
+-- What holds of every step: where it goes on, what its event says of the schema and of a text, or where it refuses. One walk along a step's cases.
 use mathlib.Core.Path.{_≡_, refl, sym, ap, subst}
 use mathlib.Core.Bool.{Bool, true, false, cond, not, _||_, false≢true}
 use mathlib.Core.List.{List, []}
@@ -49,7 +49,7 @@ stateAfter state (Opened c p) = nextOf state c
 stateAfter state (Text c from until) = nextOf state c
 stateAfter state (Closed c) = nextOf state 0
 
--- a leaf's text, from one place to another
+-- a leaf's text, from one offset to another
 pub record Whole (l : List ℕ) (c from until : ℕ) : Type 0 where
   pub leaf : class.lastContainer < c
   pub rule : textRule c (part l from until) ≡ 0
@@ -84,7 +84,7 @@ module _ (l : List ℕ) (m : Mode) where
   cases : (t : Bool) (x y : Step) → (t ≡ true → SoundStep l m x) → (t ≡ false → SoundStep l m y) → SoundStep l m (cond t x y)
   cases = cond-cases (SoundStep l m)
 
-  -- on to another place, with the infos as they are
+  -- on to another offset, with the infos as they are
   on :
       (next state leaf : ℕ) (e : Event) → m .at < next → next ≤ length l → state ≡ stateAfter (m .state) e
       → total (elementsOf l e) ≡ 0 → SoundEvent l (m .state) e → Onward l m (moved m next state leaf) e
@@ -251,7 +251,7 @@ step-sound l m = go (constructStep l (afterSpace l m)) (construct-sound l (after
 pub onward : (l : List ℕ) (m m′ : Mode) (e : Event) → stepOf l m ≡ Next m′ e → Onward l m m′ e
 onward l m m′ e p = subst (SoundStep l m) p (step-sound l m)
 
--- the place of a step's refusal
+-- the offset of a step's refusal
 pub refusal : (l : List ℕ) (m : Mode) (n p : ℕ) → stepOf l m ≡ Refused n p → p ≤ length l
 refusal l m n p q = subst (SoundStep l m) q (step-sound l m)
 

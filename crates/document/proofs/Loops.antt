@@ -133,8 +133,3 @@ Checks l step k = Reads (λ (n : ℕ) (u : Prim.Unit {0}). check.Accepted n) che
 pub checks-first : (l : List ℕ) (step : Step) → step ≡ firstStep l → Checks l step 0
 unfolding checkOf
 checks-first l step e = rw (← check-answer (documentOf l)) (reads-first l step tt e)
-
-pub checks-next :
-    (l : List ℕ) (step step′ : Step) (k : ℕ) (m : Mode) (e : Event) → Checks l step k → step ≡ Next m e → step′ ≡ stepOf l m
-    → Checks l step′ (m .infos)
-checks-next l step step′ k m e r p q = reads-next r m e step′ tt p q refl

@@ -6,7 +6,7 @@ use Prim.Native.Nat.{ℕ, _+_, _≤_, _<_}
 use Prim.Native.Char.{code}
 use native.Mathlib.Nat.{le-of-suc-le-suc}
 use native.Mathlib.Omega.{arith}
-use borrow.Author.Tests.{eq-eqb, ne-eqb, not-false}
+use borrow.Author.Tests.{not-false}
 use lib.Dec.{eqb}
 use lib.ListN.{length, drop, drop-of-length-le}
 use Rattle.text.specs.Ascii.{ascii}
@@ -49,12 +49,6 @@ module _ (prefix name p n : List ℕ) (d : p ≡ prefix) (e : n ≡ name) where
     under-other t = under [] (not-carried p n some (both ∙ t))
 
 -- ---- after the first ":"
-
-pub no-colon : (b : ℕ) → (b ≡ code ":" → ⊥) → isBeforeColon b ≡ true
-no-colon b n = rw (ne-eqb b (code ":") n)
-
-pub colon : (b : ℕ) → b ≡ code ":" → isBeforeColon b ≡ false
-colon b e = rw (eq-eqb b (code ":") e)
 
 colon-leads : (l : List ℕ) → leading isBeforeColon l < length l → startsWith (ascii ":") (drop (leading isBeforeColon l) l) ≡ true
 unfolding startsWith

@@ -19,7 +19,7 @@ use Rattle.document.specs.Constructs.{stepOf}
 use Rattle.document.specs.Documents.{elementsOf, begin, prologStep, maxLength, firstStep, after, run, readFrom}
 use Rattle.document.proofs.Events.{onward}
 
--- what holds of a refusal in the document and of a step to any place holds of the first step
+-- what holds of a refusal in the document and of a step to any offset holds of the first step
 pub first-holds :
     (l : List ℕ) (P : Step → Type 0) → ((n p : ℕ) → p ≤ length l → P (Refused n p)) → ((at : ℕ) → P (Next (begin at) Silent)) → P (firstStep l)
 unfolding firstStep

@@ -1,4 +1,4 @@
--- The texts of an accepted document: each keeps to its class's rule, is the part of the document that its place and length say, and has no fault of form.
+-- Each text of an accepted document keeps to its class's rule, is the part of the document that its offset and length say, and has no fault of form.
 use mathlib.Core.Path.{_≡_, sym, ap}
 use mathlib.Core.Bool.{false}
 use mathlib.Core.List.{List}
@@ -17,7 +17,7 @@ use Rattle.document.specs.Documents.{elementsOf, documentOf}
 use Rattle.document.proofs.Events.{Whole, SoundEvent, onward}
 use Rattle.document.proofs.Accepted.{Every, accepted-every}
 
--- a part inside a list is as long as its places say
+-- a part inside a list is as long as its offsets say
 part-length : (l : List ℕ) (from until : ℕ) → from ≤ until → until ≤ length l → from + length (part l from until) ≡ until
 part-length l from until h k =
     let e = length-take-le (until - from) (drop from l) (rw (length-drop from l) (omega arith)) in

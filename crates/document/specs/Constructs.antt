@@ -28,7 +28,7 @@ commentStep l m comment.Unended = Refused 15 (length l)
 abbrev pub stopStep : List ℕ → Mode → Step
 stopStep l m = cond (eqb (m .state) over) Done (Refused 15 (length l))
 
--- the construct at the mode's place; a byte that starts none is "text outside leaf elements"
+-- the construct at the mode's offset; a byte that starts none is "text outside leaf elements"
 unfoldable pub constructStep : List ℕ → Mode → Step
 constructStep l m =
     cond (leb (length l) (m .at)) (stopStep l m)

@@ -6,7 +6,7 @@ use lib.Dec.{eqb}
 use mir.Val.{boolByte}
 use Rattle.schema.specs.Classes as class
 
--- a container's start tag at a place; a leaf's text, from the byte after its start tag on; a container's end
+-- a container's start tag at an offset; a leaf's text, from the byte after its start tag on; a container's end
 pub data Element : Type 0 where
   opened : (class offset : ℕ) → Element
   text : (class offset : ℕ) (bytes : List ℕ) → Element

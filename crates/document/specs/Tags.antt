@@ -28,19 +28,19 @@ use Rattle.document.specs.declared.Event.the-variants.{Silent, Opened, T
 use Rattle.document.specs.declared.Step.{Step}
 use Rattle.document.specs.declared.Step.the-variants.{Next, Refused}
 
--- the mode at another place, in a state and a leaf
+-- the mode at another offset, in a state and a leaf
 abbrev pub moved : Mode → (at state leaf : ℕ) → Mode
 moved m at state leaf =
     record { at = at; state = state; leaf = leaf; infos = m .infos; «prefix_start» = m .«prefix_start»; «prefix_end» = m .«prefix_end» }
 
 -- ---- names
 
--- "every tag then carries that prefix, or none": a tag's name after the document's prefix; empty, which no element is called, where it doesn't carry it
+-- "every tag then carries that prefix, or none": a tag's name after the document's prefix; empty, which no element is called, where it lacks it
 abbrev pub afterPrefix : List ℕ → List ℕ → List ℕ
 afterPrefix [] name = name
 afterPrefix (b ∷ p) name = cond (startsWith ((b ∷ p) ++ ascii ":") name) (drop (length (b ∷ p) + 1) name) []
 
--- the name of the tag from one place to another, under the mode's prefix
+-- the name of the tag from one offset to another, under the mode's prefix
 abbrev pub nameIn : List ℕ → Mode → ℕ → ℕ → List ℕ
 nameIn l m from until = afterPrefix (part l (m .«prefix_start») (m .«prefix_end»)) (part l from until)
 

@@ -36,7 +36,7 @@ fn stop_step(s: &[u8], m: Mode) -> Step
     Step::Refused(15, s.len())
 }
 
-// The construct at the mode's place.
+// The construct at the mode's offset.
 fn construct_step(s: &[u8], m: Mode) -> Step
     ensures { λ r. ⌜ r ≡ constructStep (now (s .entry)) m ⌝ }
 {
@@ -53,7 +53,7 @@ fn construct_step(s: &[u8], m: Mode) -> Step
     Step::Refused(15, at)
 }
 
-// The construct after the white space at the mode's place.
+// The construct after the white space at the mode's offset.
 pub fn take_step(s: &[u8], m: Mode) -> Step
     ensures { λ r. ⌜ r ≡ stepOf (now (s .entry)) m ⌝ }
 {

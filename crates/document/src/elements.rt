@@ -35,7 +35,7 @@ fn rule_step(
     Step::Refused(number, from)
 }
 
-// The text of a leaf, which starts at a place.
+// The text of a leaf, which starts at an offset.
 fn text_step(s: &[u8], m: Mode, state: usize, class: usize, from: usize) -> Step
     ensures { λ r. ⌜ r ≡ textStep (now (s .entry)) m state class from (content (now (s .entry)) from) ⌝ }
 {
@@ -50,7 +50,7 @@ fn text_step(s: &[u8], m: Mode, state: usize, class: usize, from: usize) -> Step
     }
 }
 
-// A container's start tag, which ends before a place.
+// A container's start tag, which ends before an offset.
 fn enter_step(m: Mode, state: usize, class: usize, next: usize) -> Step
     ensures { λ r. ⌜ r ≡ enterStep m state class next ⌝ }
 {
@@ -74,7 +74,7 @@ fn is_misplaced(m: Mode, class: usize, state: usize) -> bool
     (class == 0) | (m.leaf != 0) | (state == 0)
 }
 
-// The start tag of an element of a class, which ends before a place.
+// The start tag of an element of a class, which ends before an offset.
 pub fn open_step(s: &[u8], m: Mode, class: usize, next: usize) -> Step
     ensures { λ r. ⌜ r ≡ openStep (now (s .entry)) m class next ⌝ }
 {
@@ -88,7 +88,7 @@ pub fn open_step(s: &[u8], m: Mode, class: usize, next: usize) -> Step
     text_step(s, m, state, class, next)
 }
 
-// The empty tag of an element of a class, which ends before a place.
+// The empty tag of an element of a class, which ends before an offset.
 pub fn empty_step(m: Mode, class: usize, next: usize) -> Step
     ensures { λ r. ⌜ r ≡ emptyStep m class next ⌝ }
 {

@@ -12,7 +12,7 @@ mod tags; // tags.rt: tags
 // The largest length of a document, in bytes.
 pub const MAX_LENGTH: usize = 65_536;
 
-// Where reading stands: the place, the state of the container, the leaf whose end tag is due (0 for none), the infos so far,
+// Where reading stands: the offset, the state of the container, the leaf whose end tag is due (0 for none), the infos so far,
 // and where the document's prefix stands.
 pub struct Mode {
     pub at: usize,
@@ -23,7 +23,7 @@ pub struct Mode {
     pub prefix_end: usize,
 }
 
-// What a construct tells: nothing; a container's start (class, place); a leaf's text (class, from, until); a container's end (class).
+// What a construct tells: nothing; a container's start (class, offset); a leaf's text (class, from, until); a container's end (class).
 pub enum Event {
     Silent,
     Opened(usize, usize),
@@ -31,14 +31,14 @@ pub enum Event {
     Closed(usize),
 }
 
-// What one construct gives: the mode after it and what it tells, the document's end, or a refusal (number, place).
+// What one construct gives: the mode after it and what it tells, the document's end, or a refusal (number, offset).
 pub enum Step {
     Next(Mode, Event),
     Done,
     Refused(u8, usize),
 }
 
-// The answer to checking a document: accepted with its number of parts, or refused (number, place).
+// The answer to checking a document: accepted with its number of parts, or refused (number, offset).
 pub enum Check {
     Accepted(usize),
     Refused(u8, usize),

@@ -10,7 +10,7 @@ pub const BEFORE: usize = 1;
 
 pub const OVER: usize = 2;
 
-// The mode before the first construct, which starts at a place.
+// The mode before the first construct, which starts at an offset.
 pub fn begin(at: usize) -> Mode
     ensures { λ r. ⌜ r ≡ begin at ⌝ }
 {
@@ -24,7 +24,7 @@ pub fn begin(at: usize) -> Mode
     }
 }
 
-// The mode at another place, in a state and a leaf.
+// The mode at another offset, in a state and a leaf.
 pub fn moved(m: Mode, at: usize, state: usize, leaf: usize) -> Mode
     ensures { λ r. ⌜ r ≡ moved m at state leaf ⌝ }
 {
@@ -38,14 +38,14 @@ pub fn moved(m: Mode, at: usize, state: usize, leaf: usize) -> Mode
     }
 }
 
-// The mode after the white space at its place.
+// The mode after the white space at its offset.
 pub fn after_space(s: &[u8], m: Mode) -> Mode
     ensures { λ r. ⌜ r ≡ afterSpace (now (s .entry)) m ⌝ }
 {
     moved(m, text::skip_space(s, m.at), m.state, m.leaf)
 }
 
-// The mode after a container's start tag, which ends before a place.
+// The mode after a container's start tag, which ends before an offset.
 pub fn entered(m: Mode, state: usize, infos: usize, next: usize) -> Mode
     ensures { λ r. ⌜ r ≡ entered m state infos next ⌝ }
 {

@@ -5,7 +5,7 @@ ghost use Rattle.text.specs.Parts.{part};
 ghost use Rattle.xml.specs.Bytes.{leading};
 ghost use Rattle.document.specs.Tags.{afterPrefix, nameIn, isBeforeColon, localName};
 
-// The name of the tag from one place to another, after the prefix from p to u; empty where it doesn't carry that.
+// The name of the tag from one offset to another, after the prefix from p to u; empty where it doesn't carry that.
 pub fn name_under(s: &[u8], p: usize, u: usize, from: usize, until: usize) -> &[u8]
     ensures { λ r. ⌜ now r ≡ afterPrefix (part (now (s .entry)) p u) (part (now (s .entry)) from until) ⌝ }
 {
@@ -21,7 +21,7 @@ pub fn name_under(s: &[u8], p: usize, u: usize, from: usize, until: usize) -> &[
     &s[..0]
 }
 
-// The name of the tag from one place to another, under the mode's prefix.
+// The name of the tag from one offset to another, under the mode's prefix.
 pub fn name_in(s: &[u8], m: Mode, from: usize, until: usize) -> &[u8]
     ensures { λ r. ⌜ now r ≡ nameIn (now (s .entry)) m from until ⌝ }
 {

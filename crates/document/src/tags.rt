@@ -98,7 +98,7 @@ fn start_step(s: &[u8], m: Mode, n: usize) -> Step
 
 // ---- end tags
 
-// A right end tag, which ends before a place.
+// A right end tag, which ends before an offset.
 fn close_step(m: Mode, next: usize) -> Step
     ensures { λ r. ⌜ r ≡ closeStep m next ⌝ }
 {
@@ -144,7 +144,7 @@ fn end_step(s: &[u8], m: Mode, n: usize) -> Step
 
 // ---- any tag
 
-// The tag at the mode's place. A name holds no quote, so the tag's end is looked for after it.
+// The tag at the mode's offset. A name holds no quote, so the tag's end is looked for after it.
 pub fn tag_step(s: &[u8], m: Mode) -> Step
     requires { ⌜ m .at < length (now s) ⌝ }
     ensures { λ r. ⌜ r ≡ tagStep (now (s .entry)) m ⌝ }

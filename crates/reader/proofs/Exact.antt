@@ -1,12 +1,11 @@
--- What was found at a place is the read-back that stands there exactly where its sentence, written into an array of one's own, leads the text from there on.
-use mathlib.Core.Path.{_≡_, refl, sym, ap, ap₂, _∙_}
+-- What was found at an offset is the read-back that stands there exactly where its sentence, in an array of its own, leads the text there.
+use mathlib.Core.Path.{_≡_, sym, ap, ap₂, _∙_}
 use mathlib.Core.Bool.{Bool, true, false}
 use mathlib.Core.List.{List}
-use Prim.Native.Nat.{ℕ, _+_, _≤_}
+use Prim.Native.Nat.{ℕ, _+_, _≤_, zero-le}
 use native.Mathlib.Nat.{zero-add}
 use native.Mathlib.Omega.{arith}
 use lib.ListN.{length, take, drop}
-use lib.Seq.{take-at}
 use Rattle.text.specs.Ascii.{ascii}
 use Rattle.buffer.specs.Writing.{written}
 use Rattle.text.specs.Logic.{by-test, clash}
@@ -25,28 +24,25 @@ use Rattle.sheet.specs.Reading.{warnOf, foundAt, spanIn, sheetIn, sheetOf, isLi
 use Rattle.sheet.specs.Answers.{writeSheet, after}
 use Rattle.sheet.proofs.Lengths.{sentence-le}
 use Rattle.sheet.proofs.ReadSentence.{found-at}
-use Rattle.sheet.proofs.WriteOne.{length-written, refuse-range, write-end}
+use Rattle.sheet.proofs.WriteOne.{length-written, part-written, refuse-range, write-end}
 use Rattle.reader.specs.Pieces.{capAt}
 
 -- ---- the kind of a sheet
 
-module _ (i : ℕ) (l : List ℕ) (r : Bool) (e : r ≡ startsWith (ascii "warn") l) where
-  pub found-warn : r ≡ true → (w : WarnFacts) → w ≡ warnOf l → found.Warn w ≡ foundAt i l
+module _ (i : ℕ) (l : List ℕ) {r : Bool} (e : r ≡ startsWith (ascii "warn") l) where
+  pub found-warn : r ≡ true → {w : WarnFacts} → w ≡ warnOf l → found.Warn w ≡ foundAt i l
   unfolding foundAt
-  found-warn b w q = rw (sym e ∙ b) (ap found.Warn q)
+  found-warn b q = rw (sym e ∙ b) (ap found.Warn q)
 
-  pub found-cap : r ≡ false → (f : Found) → f ≡ capAt i l → f ≡ foundAt i l
+  pub found-cap : r ≡ false → {f : Found} → f ≡ capAt i l → f ≡ foundAt i l
   unfolding foundAt
-  found-cap b f q = rw (sym e ∙ b) q
+  found-cap b q = rw (sym e ∙ b) q
 
--- ---- a sentence written over the front of a buffer of 1,024 bytes, which has room for every sentence
+-- ---- the answer to a write over the front of a buffer of 1,024 bytes, which has room for every sentence
 
 module _ (d : List ℕ) (x : Sheet) (big : 1_024 ≤ length d) where
-  wrote-in : inRange x ≡ true → (writeSheet d 0 x ≡ End (0 + length (sentence x))) × (after d 0 x ≡ written d 0 (sentence x))
-  wrote-in r = write-end d 0 x r (omega (arith, sentence-le x r))
-
-  wrote-out : inRange x ≡ false → writeSheet d 0 x ≡ OutOfRange
-  wrote-out r = refuse-range d 0 x r .0
+  sheet-in-range : inRange x ≡ true → (writeSheet d 0 x ≡ End (0 + length (sentence x))) × (after d 0 x ≡ written d 0 (sentence x))
+  sheet-in-range r = write-end d 0 x r (omega (arith, sentence-le x r))
 
   record Ended (n : ℕ) : Type 0 where
     pub range : inRange x ≡ true
@@ -54,49 +50,47 @@ module _ (d : List ℕ) (x : Sheet) (big : 1_024 ≤ length d) where
     pub room : n ≤ length (after d 0 x)
     pub bytes : take n (after d 0 x) ≡ sentence x
 
-  written-front : take (length (sentence x)) (written d 0 (sentence x)) ≡ sentence x
-  unfolding written
-  written-front = take-at (sentence x) (drop (0 + length (sentence x)) d) (length (sentence x)) refl
-
-  ended : (n : ℕ) → writeSheet d 0 x ≡ End n → inRange x ≡ true → Ended n
-  ended n e r =
-      let w = wrote-in r in
+  ended : {n : ℕ} → writeSheet d 0 x ≡ End n → inRange x ≡ true → Ended n
+  ended {n} e r =
+      let w = sheet-in-range r in
       let s : n ≡ length (sentence x) = cc (w .0, zero-add (length (sentence x))) in
       let h = length-written d 0 (sentence x) (omega (arith, sentence-le x r)) in
-      record { range = r; size = s; room = rw (w .1, h, s) (omega (arith, sentence-le x r)); bytes = ap₂ take s (w .1) ∙ written-front }
+      let f = part-written d 0 (sentence x) zero-le in
+      record { range = r; size = s; room = rw (w .1, h, s) (omega (arith, sentence-le x r)); bytes = ap₂ take s (w .1) ∙ f }
 
-  wrote-end : (n : ℕ) → writeSheet d 0 x ≡ End n → Ended n
-  wrote-end n e =
+  sheet-end : {n : ℕ} → writeSheet d 0 x ≡ End n → Ended n
+  sheet-end e =
       by-test (inRange x)
-      (ended n e)
-      (λ r. clash (cc (wrote-out r)))
+      (ended e)
+      (λ r. clash (cc (refuse-range d 0 x r .0)))
 
-  pub room-for : (n : ℕ) (b : List ℕ) → writeSheet d 0 x ≡ End n → b ≡ after d 0 x → n ≤ length b
-  room-for n b e w = rw w (wrote-end n e .room)
+  pub room-for : {n : ℕ} {b : List ℕ} → writeSheet d 0 x ≡ End n → b ≡ after d 0 x → n ≤ length b
+  room-for e w = rw w (sheet-end e .room)
 
-  wrote-range : writeSheet d 0 x ≡ OutOfRange → inRange x ≡ false
-  wrote-range e =
+  sheet-out-of-range : writeSheet d 0 x ≡ OutOfRange → inRange x ≡ false
+  sheet-out-of-range e =
       by-test (inRange x)
-      (λ r. clash (cc (wrote-in r .0)))
+      (λ r. clash (cc (sheet-in-range r .0)))
       (λ r. r)
 
-  wrote-room : writeSheet d 0 x ≡ NoRoom → ⊥
-  wrote-room e =
+  sheet-has-room : writeSheet d 0 x ≡ NoRoom → ⊥
+  sheet-has-room e =
       by-test (inRange x)
-      (λ r. clash (cc (wrote-in r .0)))
-      (λ r. clash (cc (wrote-out r)))
+      (λ r. clash (cc (sheet-in-range r .0)))
+      (λ r. clash (cc (refuse-range d 0 x r .0)))
 
--- ---- the line at a place, from what was found there
+-- ---- the line at an offset, from what was found there
 
-module _ (t : List ℕ) (at : ℕ) (f : Found) (q : f ≡ foundAt at (drop at t)) where
+module _ (t : List ℕ) (at : ℕ) {f : Found} (q : f ≡ foundAt at (drop at t)) where
   sheet-is : sheetIn t f ≡ sheetOf (drop at t)
   sheet-is = ap (sheetIn t) q ∙ found-at at t
 
   module _ (d : List ℕ) (big : 1_024 ≤ length d) where
-    -- n bytes of b were written, and r says whether they lead the text there
-    module _ (n : ℕ) (e : writeSheet d 0 (sheetIn t f) ≡ End n) (b : List ℕ) (w : b ≡ after d 0 (sheetIn t f)) (r : Bool) (s : r ≡ startsWith (take n b) (drop at t)) where
+    -- the sentence's n bytes are the first of b, and r says whether they lead the text there
+    module _ {n : ℕ} {b : List ℕ} {r : Bool} (e : writeSheet d 0 (sheetIn t f) ≡ End n) (w : b ≡ after d 0 (sheetIn t f))
+        (s : r ≡ startsWith (take n b) (drop at t)) where
       end-is : Ended d (sheetIn t f) big n
-      end-is = wrote-end d (sheetIn t f) big n e
+      end-is = sheet-end d (sheetIn t f) big e
 
       line-test : isLine (drop at t) ≡ r
       unfolding isLine
@@ -114,21 +108,23 @@ module _ (t : List ℕ) (at : ℕ) (f : Found) (q : f ≡ foundAt at (drop at t)
 
     pub line-range : writeSheet d 0 (sheetIn t f) ≡ OutOfRange → line.Other ≡ lineAt at (drop at t)
     unfolding lineAt isLine
-    line-range e = rw (lineAt, isLine, ← sheet-is, wrote-range d (sheetIn t f) big e)
+    line-range e = rw (lineAt, isLine, ← sheet-is, sheet-out-of-range d (sheetIn t f) big e)
 
     pub line-room : writeSheet d 0 (sheetIn t f) ≡ NoRoom → line.Other ≡ lineAt at (drop at t)
-    line-room e = absurd (wrote-room d (sheetIn t f) big e)
+    line-room e = absurd (sheet-has-room d (sheetIn t f) big e)
 
 -- ---- writing what was found
 
-module _ (t : List ℕ) (g : Found) where
-  pub sheet-cap : (f : CapFacts) (s n : Span) (a b : List ℕ) → g ≡ found.Cap f s n → a ≡ spanIn t s → b ≡ spanIn t n → cap f a b ≡ sheetIn t g
+module _ (t : List ℕ) {g : Found} where
+  pub sheet-cap : {f : CapFacts} {s n : Span} {a b : List ℕ} → g ≡ found.Cap f s n → a ≡ spanIn t s → b ≡ spanIn t n → cap f a b ≡ sheetIn t g
   unfolding sheetIn
-  sheet-cap f s n a b e p q = ap₂ (cap f) p q ∙ sym (ap (sheetIn t) e)
+  sheet-cap {f} e p q = ap₂ (cap f) p q ∙ sym (ap (sheetIn t) e)
 
-  pub sheet-warn : (f : WarnFacts) → g ≡ found.Warn f → warn f ≡ sheetIn t g
+  pub sheet-warn : {f : WarnFacts} → g ≡ found.Warn f → warn f ≡ sheetIn t g
   unfolding sheetIn
-  sheet-warn f e = sym (ap (sheetIn t) e)
+  sheet-warn e = sym (ap (sheetIn t) e)
 
-pub wrote-same : (d e : List ℕ) (r : WriteSheet) (x y : Sheet) → x ≡ y → (r ≡ writeSheet d 0 x) × (e ≡ after d 0 x) → (r ≡ writeSheet d 0 y) × (e ≡ after d 0 y)
-wrote-same d e r x y q p = (p .0 ∙ ap (writeSheet d 0) q, p .1 ∙ ap (after d 0) q)
+pub same-answer :
+    (d : List ℕ) {e : List ℕ} {r : WriteSheet} {x y : Sheet} → x ≡ y
+    → (r ≡ writeSheet d 0 x) × (e ≡ after d 0 x) → (r ≡ writeSheet d 0 y) × (e ≡ after d 0 y)
+same-answer d q p = (p .0 ∙ ap (writeSheet d 0) q, p .1 ∙ ap (after d 0) q)

@@ -1,4 +1,3 @@
-pub mod Words
 pub mod Quantity
 pub mod WarnFacts
 pub mod Exact

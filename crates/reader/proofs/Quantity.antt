@@ -7,7 +7,7 @@ use Rattle.words.specs.declared.Quantity.{Quantity}
 use Rattle.words.specs.Reading.{numberAt}
 use Rattle.sheet.specs.Reading.{numberAfter, restAfter}
 
-module _ (k : ℕ) (m s : List ℕ) (h : Quantity) (p : s ≡ drop k m) (q : h ≡ numberAt 0 s) where
+module _ (k : ℕ) (m : List ℕ) {s : List ℕ} {h : Quantity} (p : s ≡ drop k m) (q : h ≡ numberAt 0 s) where
   pub value-is : h .value ≡ numberAfter k m
   unfolding numberAfter
   value-is = rw (numberAfter, ← p, ← q)

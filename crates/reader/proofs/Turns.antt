@@ -1,4 +1,4 @@
--- One turn of the loop over a text: the line at the place i is a read-back, with n before it.
+-- One turn of the loop over a text: the line at the offset i is a read-back, with n before it.
 use mathlib.Core.Path.{_≡_, sym, ap, _∙_}
 use mathlib.Core.List.{List}
 use Prim.Native.Nat.{ℕ, _+_, _≤_, _<_}
@@ -14,12 +14,12 @@ use Rattle.sheet.proofs.Lines.{line-some, line-within, IsLine, line-is, line-no
 use Rattle.sheet.proofs.Contents.{contentsAt}
 use Rattle.sheet.proofs.ReadLoop.{resumed, loop-other, loop-found, loop-stop}
 
--- the reader's answer from the place i on, with n read-backs before it; the one asked for, if it is among them, starts at the place a
+-- the reader's answer from the offset i on, with n read-backs before it; the one asked for, if it is among them, starts at the offset a
 abbrev pub answerFrom : List ℕ → ℕ → ℕ → ℕ → ℕ → ReadBack
 answerFrom t k i n a = resumed k n (foundAt a (drop a t)) (contentsAt t i)
 
-module _ (t : List ℕ) (i : ℕ) (r : Line) (q : r ≡ lineAt i (drop i t)) where
-  module _ (f : Found) (size : ℕ) (e : r ≡ line.Sentence f size) where
+module _ (t : List ℕ) (i : ℕ) {r : Line} (q : r ≡ lineAt i (drop i t)) where
+  module _ {f : Found} {size : ℕ} (e : r ≡ line.Sentence f size) where
     is : IsLine i (drop i t) f size
     is = line-is i (drop i t) f size (sym q ∙ e)
 

@@ -14,11 +14,11 @@ use Rattle.reader.specs.declared.warn.Hazard.{Hazard}
 use Rattle.reader.specs.Pieces.{originOf, hazardOf}
 
 -- what is left after the lasting time
-pub last-is : (l : List ℕ) (o : Origin) → o ≡ originOf l → drop (length l - o .left) l ≡ fromHazard l
+pub last-is : (l : List ℕ) {o : Origin} → o ≡ originOf l → drop (length l - o .left) l ≡ fromHazard l
 unfolding originOf
-last-is l o q = ap (λ (x : Origin). drop (length l - x .left) l) q ∙ rest-offset (fromHazard l) l (hazard-rest l)
+last-is l q = ap (λ (x : Origin). drop (length l - x .left) l) q ∙ rest-offset (fromHazard l) l (hazard-rest l)
 
-module _ (l e : List ℕ) (o : Origin) (h : Hazard) (p : e ≡ afterFlags l) (q : o ≡ originOf e) (r : h ≡ hazardOf (fromHazard e)) where
+module _ (l : List ℕ) {e : List ℕ} {o : Origin} {h : Hazard} (p : e ≡ afterFlags l) (q : o ≡ originOf e) (r : h ≡ hazardOf (fromHazard e)) where
   pub warn-is :
       {u d c t : Bool} → u ≡ startsWith (ascii " urgent") (fromUrgent l) → d ≡ startsWith (ascii " update") (fromUpdate l)
       → c ≡ startsWith (ascii " cancel") (fromCancel l) → t ≡ startsWith (ascii " test") (fromTest l)

@@ -14,7 +14,7 @@ use Rattle.reader.specs.declared.warn.Hazard.{Hazard}
 abbrev pub wordCode : ℕ → List ℕ → ℕ
 wordCode list l = smallCodeOf list (wordOf l)
 
--- a CAP sentence that stands at the place i
+-- a CAP sentence that stands at the offset i
 abbrev pub capAt : ℕ → List ℕ → Found
 capAt i l = found.Cap (capOf l) (spanAt i l (fromSender l)) (spanAt i l (fromName l))
 

@@ -77,7 +77,7 @@ fn parts_of(t: &[u8]) -> Parts
     Parts::NoPart
 }
 
-// The leading word of the rest of a text, which stands at a place.
+// The leading word of the rest of a text, which stands at an offset.
 fn span_at(at: usize, t: &[u8], rest: &[u8]) -> Span
     requires { ⌜ (length (now rest) ≤ length (now t)) × (at + length (now t) < 0x1_0000_0000_0000_0000) ⌝ }
     ensures { λ r. ⌜ r ≡ spanAt at (now (t .entry)) (now (rest .entry)) ⌝ }

@@ -2,7 +2,7 @@
 mod scan; // scan.rt: what leads a text
 mod cap; // cap.rt: CAP sentences, read loosely
 mod warn; // warn.rt: WARN sentences, read loosely
-mod line; // line.rt: what stands at a place of a text
+mod line; // line.rt: what stands at an offset of a text
 
 use crate::line::found_at;
 use crate::line::line_at;

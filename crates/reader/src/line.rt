@@ -1,4 +1,4 @@
-// What stands at a place of a text: a sheet as far as it can be read, and whether the text goes on with exactly that sheet's
+// What stands at an offset of a text: a sheet as far as it can be read, and whether the text goes on with exactly that sheet's
 // sentence.
 use crate::cap::cap_at;
 use crate::warn::warn_of;
@@ -16,7 +16,7 @@ ghost use Rattle.sheet.specs.Answers.{writeSheet, after};
 // Room for any sentence.
 const SENTENCE_ROOM: usize = 1024;
 
-// What a text says from a place on, as far as it can be read.
+// What a text says from an offset on, as far as it can be read.
 pub fn found_at(t: &[u8], at: usize) -> Found
     ensures { λ r. ⌜ r ≡ foundAt at (drop at (now (t .entry))) ⌝ }
 {
@@ -41,7 +41,7 @@ fn write_found(buffer: &mut [u8], t: &[u8], found: Found) -> WriteSheet
     }
 }
 
-// The line at a place: a read-back exactly where the sentence of what was read stands there. The array has room for every sentence.
+// The line at an offset: a read-back exactly where the sentence of what was read stands there. The array has room for every sentence.
 pub fn line_at(t: &[u8], at: usize) -> Line
     ensures { λ r. ⌜ r ≡ lineAt at (drop at (now (t .entry))) ⌝ }
 {

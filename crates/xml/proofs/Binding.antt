@@ -9,7 +9,7 @@ use lib.ListN.{length, drop}
 use Rattle.text.specs.Parts.{startsWith}
 use Rattle.text.specs.Logic.{by-test}
 use Rattle.xml.specs.Attributes.{quoted}
-use Rattle.xml.proofs.Places.{starts-within}
+use Rattle.xml.proofs.Offsets.{starts-at-le}
 
 -- a and b are what the tests for the value in either quote gave
 pub value-within :
@@ -17,5 +17,5 @@ pub value-within :
     → a || b ≡ true → at + 38 ≤ length l
 value-within l at {a} x y e =
     by-test a
-    (λ f. starts-within (quoted (code "\"")) l at (omega arith) (sym x ∙ f))
-    (λ f. starts-within (quoted (code "'")) l at (omega arith) (sym y ∙ (rw f at e)))
+    (λ f. starts-at-le (quoted (code "\"")) l at (omega arith) (sym x ∙ f))
+    (λ f. starts-at-le (quoted (code "'")) l at (omega arith) (sym y ∙ (rw f at e)))

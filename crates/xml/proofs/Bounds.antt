@@ -1,4 +1,4 @@
--- Where the answers lie: inside the document, and after the place from which they were looked for.
+-- Where the answers lie: inside the document, and after the offset from which they were looked for.
 use mathlib.Core.Path.{_≡_, refl, subst}
 use mathlib.Core.Bool.{false, _&&_, _||_}
 use mathlib.Core.List.{List}
@@ -26,12 +26,12 @@ use Rattle.xml.specs.Attributes.{quoted, bound, value, equals, prefixed,
 use Rattle.xml.specs.Comments as comments
 use Rattle.xml.specs.Texts as texts
 use Rattle.xml.specs.Opening as opening
-use Rattle.xml.proofs.Places.{starts-long, starts-within}
+use Rattle.xml.proofs.Offsets.{starts-le, starts-at-le}
 use Rattle.xml.proofs.Searches.{ends-with, ends-within, no-fault, faults-within}
 
 -- ---- tails
 
--- what ends a tag lies after a place and inside the document
+-- what ends a tag lies after an offset and inside the document
 abbrev TailAhead : List ℕ → ℕ → Tail → Type 0
 TailAhead l at (tail.Open next) = (at < next) × (next ≤ length l)
 TailAhead l at (tail.Empty next) = (at < next) × (next ≤ length l)
@@ -42,9 +42,9 @@ unfolding tail
 tail-ahead l at =
     let i = at + spaces (drop at l) in
     cond-cases (TailAhead l at) (startsWith (ascii ">") (drop i l)) _ _
-    (λ e. omega (arith, starts-within (ascii ">") l i (omega arith) e)) λ e.
+    (λ e. omega (arith, starts-at-le (ascii ">") l i (omega arith) e)) λ e.
     cond-cases (TailAhead l at) (startsWith (ascii "/>") (drop i l)) _ _
-    (λ f. omega (arith, starts-within (ascii "/>") l i (omega arith) f)) (λ f. tt)
+    (λ f. omega (arith, starts-at-le (ascii "/>") l i (omega arith) f)) (λ f. tt)
 
 pub tail-open : (l : List ℕ) (at next : ℕ) → tail l at ≡ tail.Open next → (at < next) × (next ≤ length l)
 tail-open l at next e = subst (TailAhead l at) e (tail-ahead l at)
@@ -113,7 +113,7 @@ module _ (l : List ℕ) (at e : ℕ) where
   unfolding texts.content
   clean-within q = let w = ends-within (startsWith (ascii "<")) texts.isFault l at e q in (w .0, w .1)
 
-  -- a text without a fault has none at any of its places
+  -- a text without a fault has none at any of its offsets
   pub clean-at : texts.content l at ≡ content.Clean e → (i : ℕ) → at ≤ i → i < e → texts.isFault (drop i l) ≡ false
   unfolding texts.content
   clean-at q = no-fault (startsWith (ascii "<")) texts.isFault l at e q
@@ -140,7 +140,7 @@ declared-in l at h = go (opening.declarationText l (at + 6)) refl
     go content.Unended q = omega arith
 
 bom-in : (l : List ℕ) → opening.afterBom l ≤ length l
-bom-in l = by-test (startsWith opening.bom l) (λ e. rw e (starts-long opening.bom l e)) (λ e. rw e zero-le)
+bom-in l = by-test (startsWith opening.bom l) (λ e. rw e (starts-le opening.bom l e)) (λ e. rw e zero-le)
 
 prolog-in : (l : List ℕ) → PrologIn l (opening.prolog l)
 unfolding opening.prolog

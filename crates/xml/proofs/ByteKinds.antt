@@ -1,68 +1,38 @@
--- Bytes by their kind: the masks of a tag name's bytes agree with the definition, by one test over all bytes; what a byte of a kind is not.
+-- Bytes by their kind: what one computed test over bytes says of each of them, for any masks that pass it; what a byte of a kind is not.
 use mathlib.Core.Path.{_≡_, sym, ap, _∙_}
 use mathlib.Core.Bool.{Bool, true, false, cond, not, _&&_, false≢true}
-use Prim.Native.Nat.{ℕ, _-_, _/_, _^_, _≤_, _<_}
+use Prim.Native.Nat.{ℕ, _+_, _/_, _^_, _<_}
 use Prim.Native.Char.{code}
-use native.Mathlib.Omega.{arith}
 use lib.Bits.{bitAnd}
-use lib.Dec.{eqb, leb, ltb}
-use borrow.Author.Tests.{lt-ltb, le-ltb, ne-eqb, not-true}
-use Rattle.text.specs.Logic.{and-left, below-at}
+use lib.Dec.{T, eqb}
+use borrow.Author.Tests.{ne-eqb, not-true}
+use Rattle.text.specs.Logic.{and-left, below, below-at}
 use Rattle.xml.specs.Bytes.{isTagByte, isControl, isPlain}
 
 -- a bit of a mask is set
 abbrev isSet : ℕ → ℕ → Bool
 isSet mask i = eqb (bitAnd (mask / 2 ^ i) 1) 1
 
--- TAG_LOW
-abbrev tagLow : ℕ
-tagLow = 0x07ff600000000000
-
--- TAG_HIGH
-abbrev tagHigh : ℕ
-tagHigh = 0x07fffffe87fffffe
-
--- a byte's bit in the two masks
-inMasks : ℕ → Bool
-inMasks b = cond (ltb b 64) (isSet tagLow b) (cond (ltb b 128) (isSet tagHigh (b - 64)) false)
-
 -- two tests agree
 abbrev agree : Bool → Bool → Bool
-agree true t = t
-agree false t = not t
+agree s t = cond s t (not t)
 
 agree-same : (s t : Bool) → agree s t ≡ true → s ≡ t
 agree-same true t e = sym e
 agree-same false t e = sym (not-true t e)
 
-mask-right : ℕ → Bool
-unfolding inMasks
-mask-right b = agree (inMasks b) (isTagByte b)
+-- r is right for every byte that passes p
+pub tag-all :
+    (p : ℕ → Bool) (r : Bool) → T (below 256 (λ (k : ℕ). cond (p k) (agree r (isTagByte k)) true))
+    → (b : ℕ) → b < 256 → p b ≡ true → r ≡ isTagByte b
+tag-all p r t b h e = agree-same r (isTagByte b) (rw e at (below-at 256 (λ (k : ℕ). cond (p k) (agree r (isTagByte k)) true) t b h))
 
-masked : (b : ℕ) → b < 256 → inMasks b ≡ isTagByte b
-unfolding mask-right
-masked b h = agree-same (inMasks b) (isTagByte b) (below-at 256 mask-right tt b h)
-
-module _ (b : ℕ) where
-  pub tag-low : b < 64 → isSet tagLow b ≡ isTagByte b
-  unfolding inMasks
-  tag-low h = rw (lt-ltb b 64 h) at (masked b (omega arith))
-
-  pub tag-high : 64 ≤ b → b < 128 → isSet tagHigh (b - 64) ≡ isTagByte b
-  unfolding inMasks
-  tag-high g h = rw (le-ltb b 64 g, lt-ltb b 128 h) at (masked b (omega arith))
-
-  pub tag-none : 128 ≤ b → b < 256 → false ≡ isTagByte b
-  unfolding inMasks
-  tag-none g h = let k : 64 ≤ b = omega arith in rw (le-ltb b 64 k, le-ltb b 128 g) at (masked b h)
-
--- small letters are among them
-small-right : ℕ → Bool
-small-right b = cond (leb (code "a") b && leb b (code "z")) (isTagByte b) true
-
-pub tag-small : (b : ℕ) → b < 256 → leb (code "a") b && leb b (code "z") ≡ true → true ≡ isTagByte b
-unfolding small-right
-tag-small b h e = sym (sym (ap (λ (t : Bool). cond t (isTagByte b) true) e) ∙ below-at 256 small-right tt b h)
+-- a mask is right for the 64 bytes from first on
+pub tag-bit :
+    (mask first : ℕ) → T (below 64 (λ (k : ℕ). agree (isSet mask k) (isTagByte (first + k))))
+    → (i b : ℕ) → i < 64 → first + i ≡ b → isSet mask i ≡ isTagByte b
+tag-bit mask first t i b h e =
+    agree-same _ _ (below-at 64 (λ (k : ℕ). agree (isSet mask k) (isTagByte (first + k))) t i h) ∙ ap isTagByte e
 
 -- ---- what a byte of a kind is not
 

@@ -25,7 +25,7 @@ unfolding isReference
 reference-is l p q r s t = rw (p, q, r, s, t)
 
 module _ (s : List ℕ) (i : ℕ) where
-  -- a fault at a place, from what the tests of its byte and of what stands there gave
+  -- a fault at an offset, from what the tests of its byte and of what stands there gave
   pub fault-is :
       {c r t : Bool} → i < length s → c ≡ isControl (getD s i 0) → r ≡ isReference (drop i s)
       → t ≡ startsWith (ascii "]]>") (drop i s) → c || (eqb (getD s i 0) (code "&") && not r) || t ≡ isFault (drop i s)
@@ -36,13 +36,15 @@ module _ (s : List ℕ) (i : ℕ) where
   unfolding isFault
   fault-past h = rw (drop-of-length-le s h)
 
-  -- the text ends at a place where "<" stands
+  -- the text ends at an offset where "<" stands
   pub end-is : i < length s → eqb (getD s i 0) (code "<") ≡ startsWith (ascii "<") (drop i s)
   unfolding startsWith
   end-is h = rw (drop-next s i h) (and-comm true (eqb (getD s i 0) (code "<")))
 
 -- a plain byte is no fault, whatever follows, and doesn't end a text
-plain-on : (i b : ℕ) (m : List ℕ) → isPlain b ≡ true → upTo (startsWith (ascii "<")) isFault i (b ∷ m) ≡ upTo (startsWith (ascii "<")) isFault (i + 1) m
+plain-on :
+    (i b : ℕ) (m : List ℕ) → isPlain b ≡ true
+    → upTo (startsWith (ascii "<")) isFault i (b ∷ m) ≡ upTo (startsWith (ascii "<")) isFault (i + 1) m
 unfolding isFault startsWith
 plain-on i b m e =
     rw (other-byte isPlain b (code "<") refl e, plain-no-control b e, other-byte isPlain b (code "&") refl e, other-byte isPlain b (code "]") refl e)
@@ -54,7 +56,7 @@ content-run s i r e = rw (e, over-run isPlain (upTo (startsWith (ascii "<")) isF
 
 -- ---- blocks of 16 bytes
 
--- after k bytes of the block at a place, with t whether they all passed
+-- after k bytes of the block at an offset, with t whether they all passed
 pub record Passed (p : ℕ → Bool) (s : List ℕ) (at : ℕ) (t : Bool) (k : ℕ) : Type 0 where
   pub few : k ≤ 16
   pub all : t ≡ leb k (leading p (drop at s))
@@ -79,7 +81,9 @@ turned : (c x y z : Bool) → c && x && y && z ≡ x && (y && (z && c))
 turned c x y z = simp and-assoc (and-comm c (x && (y && z)) ∙ simp and-assoc)
 
 -- a block is plain if it holds no "<", no "&", no "]" and no control byte
-pub plain-block : (l : List ℕ) → block isPlain l ≡ block (other (code "<")) l && (block (other (code "&")) l && (block (other (code "]")) l && block (λ b. not (isControl b)) l))
+pub plain-block :
+    (l : List ℕ)
+    → block isPlain l ≡ block (other (code "<")) l && (block (other (code "&")) l && (block (other (code "]")) l && block (λ b. not (isControl b)) l))
 plain-block l =
     run-both (λ b. not (isControl b) && other (code "<") b && other (code "&") b) (other (code "]")) 16 l
     ∙ rw (run-both (λ b. not (isControl b) && other (code "<") b) (other (code "&")) 16 l, run-both (λ b. not (isControl b)) (other (code "<")) 16 l)

@@ -20,7 +20,7 @@ pub declares-short : (s : List ℕ) (at : ℕ) → length s ≤ at + 5 → false
 declares-short s at h =
     rw (List·getD-eq-default (drop at s) 0 {n = 5} (omega (arith, length-drop at s)), and-comm (startsWith (ascii "<?xml") (drop at s)) false)
 
--- the byte after "<?xml" is the fifth from the place on
+-- the byte after "<?xml" is the fifth from the offset on
 pub declares-is :
     (s : List ℕ) (at : ℕ) (a b : Bool) → a ≡ startsWith (ascii "<?xml") (drop at s) → b ≡ isSpace (getD s (at + 5) 0) → a && b ≡ declares (drop at s)
 declares-is s at a b p q = rw (p, q, getD-drop at s 5 0)

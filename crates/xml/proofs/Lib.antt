@@ -1,5 +1,5 @@
 pub mod ByteKinds
-pub mod Places
+pub mod Offsets
 pub mod Searches
 pub mod Contents
 pub mod Declaration

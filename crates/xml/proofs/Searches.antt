@@ -12,9 +12,9 @@ use Rattle.text.proofs.Runs.{drop-next}
 use Rattle.xml.specs.declared.Content.{Content}
 use Rattle.xml.specs.declared.Content.the-variants.{Clean, Fault, Unended}
 use Rattle.xml.specs.Searches.{holds, upTo}
-use Rattle.xml.proofs.Places.{starts-within}
+use Rattle.xml.proofs.Offsets.{starts-at-le}
 
--- ---- a loop that looks for a place where a test holds: at i, with t what the test gave there, the answer r is still due, or given
+-- ---- a loop that looks for an offset where a test holds: at i, with t what the test gave there, the answer r is still due, or given
 
 module _ (f : List ℕ → Bool) (s : List ℕ) (i : ℕ) (r : Bool) (v : holds f (drop i s) ≡ r) where
   pub holds-on : {t : Bool} → i < length s → t ≡ f (drop i s) → t ≡ false → holds f (drop (i + 1) s) ≡ r
@@ -71,7 +71,7 @@ module _ (end fault : List ℕ → Bool) where
       (λ u. cond-cases (Lies i (b ∷ m)) (holds end (b ∷ m)) _ _ (λ w. (omega arith, omega arith)) (λ w. tt))
       (λ u. one-more i b m u (upTo end fault (i + 1) m) (lies (i + 1) m))
 
-  -- at a place of the document l
+  -- at an offset of the document l
   module _ (l : List ℕ) (at : ℕ) where
     here : (k : ℕ) (f : List ℕ → Bool) (t : Bool) → at ≤ k → f (drop (k - at) (drop at l)) ≡ t → f (drop k l) ≡ t
     here k f t h e = let z : at + (k - at) ≡ k = omega arith in rw (← z, ← drop-drop (k - at) at l) e
@@ -89,5 +89,7 @@ module _ (end fault : List ℕ → Bool) where
     faults-within p q = let w = subst (Lies at (drop at l)) q (lies at (drop at l)) in (w .0, omega (arith, w .1, length-drop at l))
 
 -- what ends with p holds it inside the document
-pub ends-with : (p : List ℕ) (fault : List ℕ → Bool) (l : List ℕ) (at e : ℕ) → 0 < length p → upTo (startsWith p) fault at (drop at l) ≡ Clean e → (at ≤ e) × (e + length p ≤ length l)
-ends-with p fault l at e h q = let w = ends-within (startsWith p) fault l at e q in (w .0, starts-within p l e h (w .2))
+pub ends-with :
+    (p : List ℕ) (fault : List ℕ → Bool) (l : List ℕ) (at e : ℕ) → 0 < length p
+    → upTo (startsWith p) fault at (drop at l) ≡ Clean e → (at ≤ e) × (e + length p ≤ length l)
+ends-with p fault l at e h q = let w = ends-within (startsWith p) fault l at e q in (w .0, starts-at-le p l e h (w .2))

@@ -15,7 +15,7 @@ use Rattle.xml.specs.declared.NameSpace.the-variants.{Bound, Empty, Faul
 use Rattle.xml.specs.Bytes.{isLetter, leading}
 use Rattle.xml.specs.Tags as tags
 
--- the first place from a place on that holds no white space
+-- the first offset from an offset on that holds no white space
 abbrev skipped : List ℕ → ℕ → ℕ
 skipped l at = at + spaces (drop at l)
 
@@ -66,6 +66,6 @@ declared l at =
 abbrev attributeAt : List ℕ → ℕ → ℕ → NameSpace
 attributeAt l n at = cond (ltb n at && startsWith (ascii "xmlns") (drop at l)) (declared l (at + 5)) Fault
 
--- "The alert start tag has one attribute only": the prefix that it binds, and the place after the tag
+-- "The alert start tag has one attribute only": the prefix that it binds, and the offset after the tag
 unfoldable pub nameSpace : List ℕ → ℕ → NameSpace
 nameSpace l n = attributeAt l n (skipped l n)

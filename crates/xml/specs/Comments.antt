@@ -17,7 +17,7 @@ use Rattle.xml.specs.Searches.{upTo}
 abbrev pub isFault : List ℕ → Bool
 isFault l = ledBy isControl l || startsWith (ascii "--") l
 
--- "a comment to the first "-->" after its opening", which ends at a place
+-- "a comment to the first "-->" after its opening", which ends at an offset
 abbrev pub commentText : List ℕ → ℕ → Content
 commentText l at = upTo (startsWith (ascii "-->")) isFault at (drop at l)
 

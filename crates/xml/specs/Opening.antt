@@ -35,13 +35,13 @@ declarationOf l at (content.Clean e) = cond (leb (e + 2 - at) 128) (After (e + 2
 declarationOf l at (content.Fault p) = Fault at
 declarationOf l at content.Unended = Fault (length l)
 
--- the declaration at a place
+-- the declaration at an offset
 unfoldable pub declaration : List ℕ → ℕ → Prolog
 declaration l at = declarationOf l at (declarationText l (at + 6))
 
 abbrev prologAt : List ℕ → ℕ → Prolog
 prologAt l at = cond (declares (drop at l)) (declaration l at) (After at)
 
--- the place after "Optional BOM; optional declaration", or of a fault in the declaration
+-- the offset after "Optional BOM; optional declaration", or of a fault in the declaration
 unfoldable pub prolog : List ℕ → Prolog
 prolog l = prologAt l (afterBom l)

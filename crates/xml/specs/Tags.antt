@@ -1,4 +1,4 @@
--- Tags: where one ends, and what ends one. A place is carried along, so that each answer is a place of the whole document.
+-- Tags: where one ends, and what ends one. An offset is carried along, so that each answer is an offset of the whole document.
 use mathlib.Core.Bool.{Bool, cond, not, _&&_, _||_}
 use mathlib.Core.List.{List, [], _∷_}
 use Prim.Native.Nat.{ℕ, _+_}
@@ -23,11 +23,11 @@ unfoldable pub tagEnd : ℕ → ℕ → List ℕ → Found
 tagEnd q i [] = Nothing
 tagEnd q i (b ∷ l) = cond (eqb q 0 && eqb b (code ">")) (At i) (tagEnd (quoteAfter q b) (i + 1) l)
 
--- where the name that starts at a place ends
+-- where the name that starts at an offset ends
 abbrev pub nameEnd : List ℕ → ℕ → ℕ
 nameEnd l at = at + leading isTagByte (drop at l)
 
--- "white space may precede ">" or "/>"": what ends a tag from a place on, with the place after it
+-- "white space may precede ">" or "/>"": what ends a tag from an offset on, with the offset after it
 abbrev tailAt : List ℕ → ℕ → Tail
 tailAt l at =
     cond (startsWith (ascii ">") (drop at l)) (Open (at + 1))

@@ -23,6 +23,6 @@ isFault [] = false
 isFault (b ∷ l) =
     isControl b || (eqb b (code "&") && not (isReference (b ∷ l))) || startsWith (ascii "]]>") (b ∷ l)
 
--- the text that starts at a place: "a whole text up to the next "<""
+-- the text that starts at an offset: "a whole text up to the next "<""
 unfoldable pub content : List ℕ → ℕ → Content
 content l at = upTo (startsWith (ascii "<")) isFault at (drop at l)

@@ -12,7 +12,7 @@ ghost use Rattle.xml.specs.Attributes.{bound, value, equals, prefixed, d
 // The bytes of the name space in its quotes.
 const QUOTED_LENGTH: usize = 38;
 
-// The first place from `at` on that holds no letter.
+// The first offset from `at` on that holds no letter.
 fn skip_letters(s: &[u8], at: usize) -> usize
     ensures { λ r. ⌜ r ≡ at + leading isLetter (drop at (now (s .entry))) ⌝ }
 {

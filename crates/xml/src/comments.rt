@@ -6,7 +6,7 @@ use crate::faults::faulty;
 ghost use mathlib.Core.Path.{_≡_};
 ghost use Rattle.xml.specs.Comments.{commentText, comment};
 
-// What stands in a comment, whose opening ends at a place.
+// What stands in a comment, whose opening ends at an offset.
 fn read_comment_text(s: &[u8], at: usize) -> Content
     ensures { λ r. ⌜ r ≡ commentText (now (s .entry)) at ⌝ }
 {
@@ -23,7 +23,7 @@ fn read_comment_text(s: &[u8], at: usize) -> Content
     Content::Unended
 }
 
-// The comment whose opening ends at a place.
+// The comment whose opening ends at an offset.
 pub fn read_comment(s: &[u8], at: usize) -> Comment
     ensures { λ r. ⌜ r ≡ comment (now (s .entry)) at ⌝ }
 {

@@ -21,7 +21,7 @@ fn holds(s: &[u8], at: usize, p: &[u8]) -> bool
     false
 }
 
-// What has its first fault at a place, and ends with p.
+// What has its first fault at an offset, and ends with p.
 pub fn faulty(s: &[u8], at: usize, p: &[u8]) -> Content
     ensures { λ r. ⌜ r ≡ cond (holds (startsWith (now (p .entry))) (drop at (now (s .entry)))) (Fault at) Unended ⌝ }
 {

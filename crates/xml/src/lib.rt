@@ -1,5 +1,5 @@
 // The form of CAP documents as XML: where a construct ends, and whether its form is one that document 01 takes.
-// Any place may be named: past the end a document holds nothing.
+// Any offset may be given: past the end a document holds nothing.
 pub mod attributes; // attributes.rt: the name space attribute
 pub mod comments; // comments.rt
 pub mod opening; // opening.rt: byte order mark and declaration
@@ -14,35 +14,35 @@ pub enum Found {
     Nothing,
 }
 
-// What ends a tag after its name or attribute: ">" or "/>", with the place after it, or something else.
+// What ends a tag after its name or attribute: ">" or "/>", with the offset after it, or something else.
 pub enum Tail {
     Open(usize),
     Empty(usize),
     Fault,
 }
 
-// The name space attribute of a tag: the prefix it binds (from, until), and the place after the tag; an empty tag; or a fault.
+// The name space attribute of a tag: the prefix it binds (from, until), and the offset after the tag; an empty tag; or a fault.
 pub enum NameSpace {
     Bound(usize, usize, usize),
     Empty,
     Fault,
 }
 
-// A comment, after its opening: the place after it, a fault in it, or no end.
+// A comment, after its opening: the offset after it, a fault in it, or no end.
 pub enum Comment {
     After(usize),
     Fault,
     Unended,
 }
 
-// What stands in a text, a comment or a declaration: where it ends, the place of its first fault, or no end.
+// What stands in a text, a comment or a declaration: where it ends, the offset of its first fault, or no end.
 pub enum Content {
     Clean(usize),
     Fault(usize),
     Unended,
 }
 
-// What stands before the first construct: the place after it, or the place of the refusal.
+// What stands before the first construct: the offset after it, or the offset of the refusal.
 pub enum Prolog {
     After(usize),
     Fault(usize),

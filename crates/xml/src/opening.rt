@@ -8,7 +8,7 @@ ghost use Prim.Native.Nat.{_≤_};
 ghost use lib.ListN.{drop};
 ghost use Rattle.xml.specs.Opening.{afterBom, declares, declarationText, declaration, prolog};
 
-// The place after the byte order mark, if there is one.
+// The offset after the byte order mark, if there is one.
 fn after_bom(s: &[u8]) -> usize
     ensures { λ r. ⌜ r ≡ afterBom (now (s .entry)) ⌝ }
 {
@@ -18,7 +18,7 @@ fn after_bom(s: &[u8]) -> usize
     0
 }
 
-// Whether a declaration starts at a place.
+// Whether a declaration starts at an offset.
 fn declares(s: &[u8], at: usize) -> bool
     requires { ⌜ at ≤ 3 ⌝ }
     ensures { λ r. ⌜ r ≡ declares (drop at (now (s .entry))) ⌝ }
@@ -29,7 +29,7 @@ fn declares(s: &[u8], at: usize) -> bool
     text::starts_at(s, at, b"<?xml") & text::is_space(s[at + 5])
 }
 
-// What stands in a declaration, from a place in it on.
+// What stands in a declaration, from an offset in it on.
 fn read_declaration_text(s: &[u8], at: usize) -> Content
     ensures { λ r. ⌜ r ≡ declarationText (now (s .entry)) at ⌝ }
 {
@@ -46,7 +46,7 @@ fn read_declaration_text(s: &[u8], at: usize) -> Content
     Content::Unended
 }
 
-// The declaration at a place.
+// The declaration at an offset.
 fn read_declaration(s: &[u8], at: usize) -> Prolog
     requires { ⌜ at ≤ 3 ⌝ }
     ensures { λ r. ⌜ r ≡ declaration (now (s .entry)) at ⌝ }

@@ -23,7 +23,7 @@ fn quote_after(q: u8, b: u8) -> u8
     0
 }
 
-// Where the tag that goes on at a place, outside quotes, ends: at the first ">" outside quotes.
+// Where the tag that goes on at an offset, outside quotes, ends: at the first ">" outside quotes.
 pub fn tag_end(s: &[u8], at: usize) -> Found
     ensures { λ r. ⌜ r ≡ tagEnd 0 at (drop at (now (s .entry))) ⌝ }
 {
@@ -40,7 +40,7 @@ pub fn tag_end(s: &[u8], at: usize) -> Found
     Found::Nothing
 }
 
-// Where the name that starts at a place ends.
+// Where the name that starts at an offset ends.
 pub fn name_end(s: &[u8], at: usize) -> usize
     ensures { λ r. ⌜ r ≡ nameEnd (now (s .entry)) at ⌝ }
 {
@@ -55,7 +55,7 @@ pub fn name_end(s: &[u8], at: usize) -> usize
     i
 }
 
-// What ends a tag from a place on.
+// What ends a tag from an offset on.
 pub fn read_tail(s: &[u8], at: usize) -> Tail
     ensures { λ r. ⌜ r ≡ tail (now (s .entry)) at ⌝ }
 {

@@ -11,7 +11,7 @@ ghost use lib.ListN.{length, drop};
 ghost use Rattle.xml.specs.Bytes.{isControl, isPlain, leading};
 ghost use Rattle.xml.specs.Texts.{isReference, isFault, content};
 
-// Whether one of the five named references stands at a place.
+// Whether one of the five named references stands at an offset.
 fn is_reference(s: &[u8], at: usize) -> bool
     ensures { λ r. ⌜ r ≡ isReference (drop at (now (s .entry))) ⌝ }
 {
@@ -22,7 +22,7 @@ fn is_reference(s: &[u8], at: usize) -> bool
         | text::starts_at(s, at, b"&quot;")
 }
 
-// Whether a fault of form stands at a place.
+// Whether a fault of form stands at an offset.
 fn is_fault(s: &[u8], at: usize) -> bool
     ensures { λ r. ⌜ r ≡ isFault (drop at (now (s .entry))) ⌝ }
 {
@@ -40,7 +40,7 @@ fn is_other(b: u8, x: u8) -> bool
     b != x
 }
 
-// Whether none of the 16 bytes from a place on is x. There is no branch in the loop, so that the compiler can test them at once.
+// Whether none of the 16 bytes from an offset on is x. There is no branch in the loop, so that the compiler can test them at once.
 fn lacks(s: &[u8], at: usize, x: u8) -> bool
     requires { ⌜ at + 16 ≤ length (now s) ⌝ }
     ensures { λ r. ⌜ r ≡ leb 16 (leading (λ b. not (eqb b x)) (drop at (now (s .entry)))) ⌝ }
@@ -54,7 +54,7 @@ fn lacks(s: &[u8], at: usize, x: u8) -> bool
     free
 }
 
-// Whether none of the 16 bytes from a place on is a control byte.
+// Whether none of the 16 bytes from an offset on is a control byte.
 fn lacks_control(s: &[u8], at: usize) -> bool
     requires { ⌜ at + 16 ≤ length (now s) ⌝ }
     ensures { λ r. ⌜ r ≡ leb 16 (leading (λ b. not (isControl b)) (drop at (now (s .entry)))) ⌝ }
@@ -68,7 +68,7 @@ fn lacks_control(s: &[u8], at: usize) -> bool
     free
 }
 
-// Whether the 16 bytes from a place on are all plain: one test after the other, since the compiler mixes up tests of several values in one loop.
+// Whether the 16 bytes from an offset on are all plain: one test after the other, since the compiler mixes up tests of several values in one loop.
 fn is_plain_block(s: &[u8], at: usize) -> bool
     requires { ⌜ at + 16 ≤ length (now s) ⌝ }
     ensures { λ r. ⌜ r ≡ leb 16 (leading isPlain (drop at (now (s .entry)))) ⌝ }
@@ -85,7 +85,7 @@ fn is_plain_block(s: &[u8], at: usize) -> bool
     lacks_control(s, at)
 }
 
-// A place before which all bytes from `at` on are plain, found by whole blocks.
+// An offset before which all bytes from `at` on are plain, found by whole blocks.
 fn skip_blocks(s: &[u8], at: usize) -> usize
     ensures { λ r. ⌜ r + leading isPlain (drop r (now (s .entry))) ≡ at + leading isPlain (drop at (now (s .entry))) ⌝ }
 {
@@ -103,7 +103,7 @@ fn skip_blocks(s: &[u8], at: usize) -> usize
     i
 }
 
-// The first place from `at` on that holds no plain byte.
+// The first offset from `at` on that holds no plain byte.
 fn plain_end(s: &[u8], at: usize) -> usize
     ensures { λ r. ⌜ r ≡ at + leading isPlain (drop at (now (s .entry))) ⌝ }
 {
@@ -118,7 +118,7 @@ fn plain_end(s: &[u8], at: usize) -> usize
     i
 }
 
-// The text that starts at a place: from one byte that isn't plain to the next.
+// The text that starts at an offset: from one byte that isn't plain to the next.
 pub fn read_text(s: &[u8], at: usize) -> Content
     ensures { λ r. ⌜ r ≡ content (now (s .entry)) at ⌝ }
 {

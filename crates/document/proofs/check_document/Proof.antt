@@ -1,6 +1,7 @@
 -- What is still to be answered is the document's answer; each construct leads on.
+use mathlib.Core.Path.{refl}
 use borrow.Author.Needs.{needs}
-use Rattle.document.proofs.Loops.{left, left-less, Checks, checks-first, checks-next, reads-done, reads-refused}
+use Rattle.document.proofs.Loops.{left, left-less, Checks, checks-first, reads-next, reads-done, reads-refused}
 use Rattle.document.proofs.check_document.Statement.{statement}
 use Rattle.document.proofs.check_document.Tie as tie
 
@@ -15,12 +16,12 @@ loop-holds c = checks-first (c .before .before .args .s .now) _ (c .first-step .
 
 loop-less : tie.Need-loop-less Inv-loop μ-loop
 loop-less c =
-    left-less (c .before .before .before .before .before .before .before .args .s .now) _ _ _ _ (c .before .before .step .given .1) (c .take-step .ensures)
+    let b = c .before .before in
+    left-less (b .before .before .before .before .before .args .s .now) _ _ _ _ (b .step .given .1) (c .take-step .ensures)
 
 loop-again : tie.Need-loop-again Inv-loop μ-loop
 loop-again c =
-    checks-next (c .before .before .before .before .before .before .before .args .s .now) _ _ _ _ _ (c .before .before .before .before .loop .inv)
-    (c .before .before .step .given .1) (c .take-step .ensures)
+    reads-next (c .before .before .before .before .loop .inv) _ _ _ tt (c .before .before .step .given .1) (c .take-step .ensures) refl
 
 enum-told : tie.Need-enum-told Inv-loop μ-loop
 enum-told c = search needs

@@ -1,4 +1,4 @@
--- Before each turn the answer from the place i on, with n read-backs before it, is the answer to the whole text.
+-- Before each turn the answer from the offset i on, with n read-backs before it, is the answer to the whole text.
 use mathlib.Core.Path.{_≡_, sym, ap, _∙_}
 use Prim.Native.Nat.{_+_, _-_, _≤_, _<_}
 use native.Mathlib.Omega.{arith}
@@ -23,48 +23,66 @@ loop-holds c = (omega arith, omega arith, loop-start (c .before .args .text .now
 -- a read-back was met: it has a byte, and lies within the text
 room :
     (c : tie.After-known-told Inv-loop μ-loop)
-    → (c .before .before .before .before .before .loop .i < c .before .before .before .before .before .loop .i + c .before .size .given .0 .1 .0)
-    × (c .before .before .before .before .before .loop .i + c .before .size .given .0 .1 .0 ≤ length (c .before .before .before .before .before .before .before .args .text .now))
+    → (let l = c .before .before .before .before .before in let j = l .loop .i + c .before .size .given .0 .1 .0 in
+    (l .loop .i < j) × (j ≤ length (l .before .before .args .text .now)))
 room c =
     let l = c .before .before .before .before .before in
-    turn-room (l .before .before .args .text .now) (l .loop .i) _ (c .before .before .before .line-at .ensures) _ _ (c .before .size .given .1) (l .loop .inv .1)
+    let a = l .before .before .args in
+    turn-room (a .text .now) (l .loop .i) (c .before .before .before .line-at .ensures) (c .before .size .given .1) (l .loop .inv .1)
 
 loop-again : tie.Need-loop-again Inv-loop μ-loop
 loop-again c =
-    let l = c .before .before .before .before .before .before in
+    let m = c .before .before .before .before in
+    let l = m .before .before in
     let a = l .before .before .args in
-    let r = room (c .before) in (
+    let r = room (c .before) in
+    let e = c .before .before .size .given .1 in (
       omega arith,
       r .1,
-      turn-asked (a .text .now) (l .loop .i) _ (c .before .before .before .before .line-at .ensures) _ _ (c .before .before .size .given .1) (a .k) (l .loop .n) (l .loop .asked) (c .if1 .taken)
-          ∙ l .loop .inv .2,
+      turn-asked (a .text .now) (l .loop .i) (m .line-at .ensures) e (a .k) (l .loop .n) (l .loop .asked) (c .if1 .taken) ∙ l .loop .inv .2,
     )
 
 loop-again-2 : tie.Need-loop-again-2 Inv-loop μ-loop
 loop-again-2 c =
-    let l = c .before .before .before .before .before .before in
+    let m = c .before .before .before .before in
+    let l = m .before .before in
     let a = l .before .before .args in
-    let r = room (c .before) in (
+    let r = room (c .before) in
+    let e = c .before .before .size .given .1 in (
       omega arith,
       r .1,
-      turn-other (a .text .now) (l .loop .i) _ (c .before .before .before .before .line-at .ensures) _ _ (c .before .before .size .given .1) (a .k) (l .loop .n) (l .loop .asked) (c .if1 .left)
-          ∙ l .loop .inv .2,
+      turn-other (a .text .now) (l .loop .i) (m .line-at .ensures) e (a .k) (l .loop .n) (l .loop .asked) (c .if1 .left) ∙ l .loop .inv .2,
     )
 
 enum-told : tie.Need-enum-told Inv-loop μ-loop
 enum-told c = search needs
 
 returns : tie.Need-returns Inv-loop μ-loop
-returns c = turn-stop (c .before .before .before .before .before .before .args .text .now) (c .before .before .before .before .loop .i) _ (c .before .before .line-at .ensures) _ _ _ (c .before .before .before .loop-test .taken) (c .enum-told .given .1) ∙ c .before .before .before .before .loop .inv .2
+returns c =
+    let l = c .before .before .before .before in
+    let h = c .before .before .before .loop-test .taken in
+    turn-stop (l .before .before .args .text .now) (l .loop .i) (c .before .before .line-at .ensures) _ _ _ h (c .enum-told .given .1)
+    ∙ l .loop .inv .2
 
 returns-2 : tie.Need-returns-2 Inv-loop μ-loop
-returns-2 c = sym (loop-count (c .before .before .before .before .args .text .now) (c .before .before .before .before .args .k) (c .before .before .loop .i) _ _ (c .before .loop-test .left) (c .if2 .taken)) ∙ c .before .before .loop .inv .2
+returns-2 c =
+    let l = c .before .before in
+    let a = l .before .before .args in
+    sym (loop-count (a .text .now) (a .k) (l .loop .i) _ _ (c .before .loop-test .left) (c .if2 .taken)) ∙ l .loop .inv .2
 
 returns-3 : tie.Need-returns-3 Inv-loop μ-loop
-returns-3 c = sym (loop-none (c .before .before .before .before .before .args .text .now) (c .before .before .before .before .before .args .k) (c .before .before .before .loop .i) _ _ (c .before .before .loop-test .left) (c .if3 .taken)) ∙ c .before .before .before .loop .inv .2
+returns-3 c =
+    let l = c .before .before .before in
+    let a = l .before .before .args in
+    sym (loop-none (a .text .now) (a .k) (l .loop .i) _ _ (c .before .before .loop-test .left) (c .if3 .taken)) ∙ l .loop .inv .2
 
 returns-4 : tie.Need-returns-4 Inv-loop μ-loop
-returns-4 c = ap (readback.Sheet (c .before .before .before .before .loop .n)) (c .found-at .ensures) ∙ sym (loop-sheet (c .before .before .before .before .before .before .args .text .now) (c .before .before .before .before .before .before .args .k) (c .before .before .before .before .loop .i) _ _ (c .before .before .before .loop-test .left) (omega arith) (c .before .if3 .left)) ∙ c .before .before .before .before .loop .inv .2
+returns-4 c =
+    let l = c .before .before .before .before in
+    let a = l .before .before .args in
+    ap (readback.Sheet (l .loop .n)) (c .found-at .ensures)
+    ∙ sym (loop-sheet (a .text .now) (a .k) (l .loop .i) _ _ (c .before .before .before .loop-test .left) (omega arith) (c .before .if3 .left))
+    ∙ l .loop .inv .2
 
 pub read-back-spec : {M : Type 1} → statement M
 read-back-spec =

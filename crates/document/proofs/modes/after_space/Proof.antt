@@ -1,4 +1,4 @@
--- The place is the one after the white space.
+-- The offset is the one after the white space.
 use mathlib.Core.Path.{ap, _∙_}
 use Prim.Native.Nat.{ℕ}
 use borrow.Author.Needs.{needs}

@@ -1,13 +1,14 @@
 -- What is left before the first ":" from i on, and i, is what stands before it in the whole name.
-use mathlib.Core.Path.{_≡_, refl}
+use mathlib.Core.Path.{_≡_, refl, ap}
+use mathlib.Core.Bool.{not}
 use Prim.Native.Nat.{_+_, _-_}
 use native.Mathlib.Omega.{arith}
 use lib.ListN.{length, drop}
 use borrow.Author.Needs.{needs}
+use borrow.Author.Tests.{eq-eqb, ne-eqb}
 use Rattle.text.specs.Bytes.{leading}
 use Rattle.text.proofs.Runs.{run-on, run-stop, run-end}
 use Rattle.document.specs.Tags.{isBeforeColon}
-use Rattle.document.proofs.Prefixes.{no-colon, colon}
 use Rattle.document.proofs.names.before_colon.Statement.{statement}
 use Rattle.document.proofs.names.before_colon.Tie as tie
 
@@ -21,7 +22,7 @@ pub before-colon-spec : {M : Type 1} → statement M
 before-colon-spec =
     tie.close
     (tie.spec Inv-loop μ-loop (λ c. omega arith) (λ c. search needs)
-    (λ c. run-stop isBeforeColon _ _ _ (c .before .before .before .loop .inv) (c .before .before .loop-test .taken) refl (colon _ (c .if1 .taken)))
+    (λ c. run-stop _ _ _ _ (c .before .before .before .loop .inv) (c .before .before .loop-test .taken) refl (ap not (eq-eqb _ _ (c .if1 .taken))))
     (λ c. omega arith) (λ c. omega arith)
-    (λ c. run-on isBeforeColon _ _ _ (c .before .before .before .loop .inv) (c .before .before .loop-test .taken) refl (no-colon _ (c .if1 .left)))
-    (λ c. run-end isBeforeColon _ _ _ (c .before .loop .inv) (c .loop-test .left)))
+    (λ c. run-on _ _ _ _ (c .before .before .before .loop .inv) (c .before .before .loop-test .taken) refl (ap not (ne-eqb _ _ (c .if1 .left))))
+    (λ c. run-end _ _ _ _ (c .before .loop .inv) (c .loop-test .left)))

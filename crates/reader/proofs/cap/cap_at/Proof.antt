@@ -14,44 +14,51 @@ use Rattle.reader.proofs.cap.cap_at.Tie as tie
 span-at-requires : tie.Need-span-at-requires
 unfolding fromStatus fromScope fromSender
 span-at-requires c κs =
-    let s = c .before .before .before .before .before .before .before .before .before .before .before .before .before .skip .ensures in
-    let m = c .before .before .before .before .before .before .before .before .before .before .before .before .skip2 .ensures ∙ ap (drop 4) s in
-    let u = c .before .before .before .before .before .before .before .before .before .before .before .after-word .ensures ∙ ap (afterWord 2) m in
-    let p = c .before .before .before .before .before .before .before .before .before .before .after-word2 .ensures ∙ ap (afterWord 2) u in
-    let f = c .before .before .before .before .before .before .before .before .before .after-word3 .ensures ∙ ap (afterWord 7) p in
-    let b = c .before .before .before .before .before .before .before .before .before .before .before .before .before .before .before in
+    let w = c .before .before .before .before .before .before .before .before .before in
+    let s = w .before .before .before .before .skip .ensures in
+    let m = w .before .before .before .skip2 .ensures ∙ ap (drop 4) s in
+    let u = w .before .before .after-word .ensures ∙ ap (afterWord 2) m in
+    let p = w .before .after-word2 .ensures ∙ ap (afterWord 2) u in
+    let f = w .after-word3 .ensures ∙ ap (afterWord 7) p in
+    let b = w .before .before .before .before .before .before in
     let a = b .args in
-    (rw (s, f) (rest-le _ _ (sender-rest (drop (a .at) (a .t .now)))), rw s (omega (arith, length-drop (a .at) (a .t .now), b .good .0 .1, b .fits .at)))
+    let r = rest-le _ _ (sender-rest (drop (a .at) (a .t .now))) in
+    (rw (s, f) r, rw s (omega (arith, length-drop (a .at) (a .t .now), b .good .0 .1, b .fits .at)))
 
 span-at-requires-2 : tie.Need-span-at-requires-2
 unfolding fromStatus fromScope fromSender fromName
 span-at-requires-2 c κs =
-    let s = c .before .before .before .before .before .before .before .before .before .before .before .before .before .before .skip .ensures in
-    let m = c .before .before .before .before .before .before .before .before .before .before .before .before .before .skip2 .ensures ∙ ap (drop 4) s in
-    let u = c .before .before .before .before .before .before .before .before .before .before .before .before .after-word .ensures ∙ ap (afterWord 2) m in
-    let p = c .before .before .before .before .before .before .before .before .before .before .before .after-word2 .ensures ∙ ap (afterWord 2) u in
-    let f = c .before .before .before .before .before .before .before .before .before .before .after-word3 .ensures ∙ ap (afterWord 7) p in
-    let n = c .before .before .before .before .before .before .before .before .before .after-word4 .ensures ∙ ap (afterWord 7) f in
-    let b = c .before .before .before .before .before .before .before .before .before .before .before .before .before .before .before .before in
+    let w = c .before .before .before .before .before .before .before .before .before in
+    let s = w .before .before .before .before .before .skip .ensures in
+    let m = w .before .before .before .before .skip2 .ensures ∙ ap (drop 4) s in
+    let u = w .before .before .before .after-word .ensures ∙ ap (afterWord 2) m in
+    let p = w .before .before .after-word2 .ensures ∙ ap (afterWord 2) u in
+    let f = w .before .after-word3 .ensures ∙ ap (afterWord 7) p in
+    let n = w .after-word4 .ensures ∙ ap (afterWord 7) f in
+    let b = w .before .before .before .before .before .before .before in
     let a = b .args in
-    (rw (s, n) (rest-le _ _ (name-rest (drop (a .at) (a .t .now)))), rw s (omega (arith, length-drop (a .at) (a .t .now), b .good .0 .1, b .fits .at)))
+    let r = rest-le _ _ (name-rest (drop (a .at) (a .t .now))) in
+    (rw (s, n) r, rw s (omega (arith, length-drop (a .at) (a .t .now), b .good .0 .1, b .fits .at)))
 
 returns : tie.Need-returns
 unfolding capOf fromStatus fromScope fromSender fromName fromParts
 returns c =
-    let s = c .before .before .before .before .before .before .before .before .before .before .before .before .before .before .before .skip .ensures in
-    let m = c .before .before .before .before .before .before .before .before .before .before .before .before .before .before .skip2 .ensures ∙ ap (drop 4) s in
-    let u = c .before .before .before .before .before .before .before .before .before .before .before .before .before .after-word .ensures ∙ ap (afterWord 2) m in
-    let p = c .before .before .before .before .before .before .before .before .before .before .before .before .after-word2 .ensures ∙ ap (afterWord 2) u in
-    let f = c .before .before .before .before .before .before .before .before .before .before .before .after-word3 .ensures ∙ ap (afterWord 7) p in
-    let n = c .before .before .before .before .before .before .before .before .before .before .after-word4 .ensures ∙ ap (afterWord 7) f in
+    let b = c .before .before .before .before in
+    let g = b .before .before .before .before in
+    let w = g .before .before in
+    let s = w .before .before .before .before .before .skip .ensures in
+    let m = w .before .before .before .before .skip2 .ensures ∙ ap (drop 4) s in
+    let u = w .before .before .before .after-word .ensures ∙ ap (afterWord 2) m in
+    let p = w .before .before .after-word2 .ensures ∙ ap (afterWord 2) u in
+    let f = w .before .after-word3 .ensures ∙ ap (afterWord 7) p in
+    let n = w .after-word4 .ensures ∙ ap (afterWord 7) f in
     let x = c .before .before .before .after-word5 .ensures ∙ ap (afterWord 0) n in
-    let a = c .before .before .before .before .before .before .before .before .before .before .before .before .before .before .before .before .before .args in
+    let a = w .before .before .before .before .before .before .before .args in
     λ i. found.Cap
     (record {
-      message = (c .before .before .before .before .before .before .before .before .message-at .ensures ∙ ap messageAt (c .before .before .before .before .before .before .before .before .before .code-in .ensures ∙ ap (wordCode list.msgType) m)) i;
-      status = (c .before .before .before .before .before .before .status-at .ensures ∙ ap statusAt (c .before .before .before .before .before .before .before .code-in2 .ensures ∙ ap (wordCode list.status) u)) i;
-      scope = (c .before .before .before .before .scope-at .ensures ∙ ap scopeAt (c .before .before .before .before .before .code-in3 .ensures ∙ ap (wordCode list.scope) p)) i;
+      message = (g .message-at .ensures ∙ ap messageAt (g .before .code-in .ensures ∙ ap (wordCode list.msgType) m)) i;
+      status = (b .before .before .status-at .ensures ∙ ap statusAt (b .before .before .before .code-in2 .ensures ∙ ap (wordCode list.status) u)) i;
+      scope = (b .scope-at .ensures ∙ ap scopeAt (b .before .code-in3 .ensures ∙ ap (wordCode list.scope) p)) i;
       parts = (c .before .before .parts-of .ensures ∙ ap partsOf x) i;
     })
     ((c .before .span-at .ensures ∙ ap₂ (spanAt (a .at)) s f) i)

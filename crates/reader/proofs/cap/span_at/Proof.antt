@@ -1,4 +1,4 @@
--- The place, and the length of the word there.
+-- The offset, and the length of the word there.
 use mathlib.Core.Path.{ap}
 use Prim.Native.Nat.{ℕ, _+_, _-_}
 use borrow.Author.Needs.{needs}

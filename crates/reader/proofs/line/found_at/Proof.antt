@@ -11,12 +11,13 @@ use Rattle.reader.proofs.line.found_at.Tie as tie
 returns : tie.Need-returns
 returns c =
     let s = c .before .before .before .before .skip .ensures in
-    found-warn _ _ _ (c .before .before .starts-with .ensures ∙ ap (startsWith (ascii "warn")) s) (c .before .if1 .taken) _ (c .warn-of .ensures ∙ ap warnOf s)
+    found-warn _ _ (c .before .before .starts-with .ensures ∙ ap (startsWith (ascii "warn")) s) (c .before .if1 .taken)
+    (c .warn-of .ensures ∙ ap warnOf s)
 
 returns-2 : tie.Need-returns-2
 returns-2 c =
     let s = c .before .before .before .before .skip .ensures in
-    found-cap _ _ _ (c .before .before .starts-with .ensures ∙ ap (startsWith (ascii "warn")) s) (c .before .if1 .left) _ (c .cap-at .ensures)
+    found-cap _ _ (c .before .before .starts-with .ensures ∙ ap (startsWith (ascii "warn")) s) (c .before .if1 .left) (c .cap-at .ensures)
 
 pub found-at-spec : {M : Type 1} → statement M
 found-at-spec = tie.close (tie.spec _ (λ c. search needs) _ _ returns _ returns-2)

@@ -8,25 +8,45 @@ use Rattle.reader.proofs.line.line_at.Tie as tie
 use Rattle.reader.proofs.line.line_at.Statement.{statement}
 
 array-share-prefix-own : tie.Need-array-share-prefix-own
-array-share-prefix-own c = room-for _ _ (omega arith) _ _ (sym (c .before .before .before .before .write-found .ensures .0) ∙ c .before .n .given .1) (c .before .before .before .before .write-found .ensures .1)
+array-share-prefix-own c =
+    let w = c .before .before .before .before .write-found .ensures in
+    room-for _ _ (omega arith) (sym (w .0) ∙ c .before .n .given .1) (w .1)
 
 slice-aggregate-starts-at : tie.Need-slice-aggregate-starts-at
-slice-aggregate-starts-at c = sym (length-take-le _ _ (room-for _ _ (omega arith) _ _ (sym (c .before .before .before .before .before .write-found .ensures .0) ∙ c .before .before .n .given .1) (c .before .before .before .before .before .write-found .ensures .1)))
+slice-aggregate-starts-at c =
+    let w = c .before .before .before .before .before .write-found .ensures in
+    sym (length-take-le _ _ (room-for _ _ (omega arith) (sym (w .0) ∙ c .before .before .n .given .1) (w .1)))
 
 returns : tie.Need-returns
-returns c = line-sentence (c .before .before .before .before .before .before .before .before .before .before .before .args .t .now) (c .before .before .before .before .before .before .before .before .before .before .before .args .at) _ (c .before .before .before .before .before .before .before .before .before .found-at .ensures) _ (omega arith) _ (sym (c .before .before .before .before .before .before .before .write-found .ensures .0) ∙ c .before .before .before .before .n .given .1) _ (c .before .before .before .before .before .before .before .write-found .ensures .1) _ (c .before .starts-at .ensures) (c .if1 .taken)
+returns c =
+    let n = c .before .before .before .before in
+    let w = n .before .before .before in
+    let a = w .before .before .before .before .args in
+    line-sentence (a .t .now) (a .at) (w .before .before .found-at .ensures) _ (omega arith) (sym (w .write-found .ensures .0) ∙ n .n .given .1)
+    (w .write-found .ensures .1) (c .before .starts-at .ensures) (c .if1 .taken)
 
 returns-2 : tie.Need-returns-2
-returns-2 c = line-differs (c .before .before .before .before .before .before .before .before .before .before .before .args .t .now) (c .before .before .before .before .before .before .before .before .before .before .before .args .at) _ (c .before .before .before .before .before .before .before .before .before .found-at .ensures) _ (omega arith) _ (sym (c .before .before .before .before .before .before .before .write-found .ensures .0) ∙ c .before .before .before .before .n .given .1) _ (c .before .before .before .before .before .before .before .write-found .ensures .1) _ (c .before .starts-at .ensures) (c .if1 .left)
+returns-2 c =
+    let n = c .before .before .before .before in
+    let w = n .before .before .before in
+    let a = w .before .before .before .before .args in
+    line-differs (a .t .now) (a .at) (w .before .before .found-at .ensures) _ (omega arith) (sym (w .write-found .ensures .0) ∙ n .n .given .1)
+    (w .write-found .ensures .1) (c .before .starts-at .ensures) (c .if1 .left)
 
 enum-told : tie.Need-enum-told
 enum-told c = search needs
 
 returns-3 : tie.Need-returns-3
-returns-3 c = line-range (c .before .before .before .before .before .before .before .args .t .now) (c .before .before .before .before .before .before .before .args .at) _ (c .before .before .before .before .before .found-at .ensures) _ (omega arith) (sym (c .before .before .before .write-found .ensures .0) ∙ c .enum-told .given .1)
+returns-3 c =
+    let w = c .before .before .before in
+    let a = w .before .before .before .before .args in
+    line-range (a .t .now) (a .at) (w .before .before .found-at .ensures) _ (omega arith) (sym (w .write-found .ensures .0) ∙ c .enum-told .given .1)
 
 returns-4 : tie.Need-returns-4
-returns-4 c = line-room (c .before .before .before .before .before .before .before .args .t .now) (c .before .before .before .before .before .before .before .args .at) _ (c .before .before .before .before .before .found-at .ensures) _ (omega arith) (sym (c .before .before .before .write-found .ensures .0) ∙ c .enum-told2 .given .1)
+returns-4 c =
+    let w = c .before .before .before in
+    let a = w .before .before .before .before .args in
+    line-room (a .t .now) (a .at) (w .before .before .found-at .ensures) _ (omega arith) (sym (w .write-found .ensures .0) ∙ c .enum-told2 .given .1)
 
 pub line-at-spec : {M : Type 1} → statement M
 line-at-spec =

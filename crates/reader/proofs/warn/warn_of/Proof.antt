@@ -12,14 +12,15 @@ use Rattle.reader.proofs.warn.warn_of.Tie as tie
 returns : tie.Need-returns
 unfolding fromUpdate fromCancel fromTest afterFlags
 returns c =
-    let u = c .before .before .before .before .before .before .before .before .before .before .before .before .before .before .before .before .before .before .before .skip .ensures in
-    let d = c .before .before .before .before .before .before .before .before .before .before .before .before .before .before .before .before .before .after-flag .ensures ∙ ap (afterFlag (ascii " urgent")) u in
-    let n = c .before .before .before .before .before .before .before .before .before .before .before .before .before .before .before .after-flag2 .ensures ∙ ap (afterFlag (ascii " update")) d in
-    let t = c .before .before .before .before .before .before .before .before .before .before .before .before .before .after-flag3 .ensures ∙ ap (afterFlag (ascii " cancel")) n in
-    let e = c .before .before .before .before .before .before .before .before .before .before .before .after-flag4 .ensures ∙ ap (afterFlag (ascii " test")) t in
-    let o = c .before .before .before .before .before .before .before .before .before .before .origin-of .ensures in
-    let h = c .before .before .before .before .before .before .before .before .hazard-of .ensures ∙ ap hazardOf (c .before .before .before .before .before .before .before .before .before .last .ensures ∙ last-is (c .before .before .before .before .before .before .before .before .before .before .before .after-flag4 .result .now) _ o) in
-    warn-is _ _ _ _ e o h (c .before .before .before .before .before .before .starts-with .ensures ∙ ap (startsWith (ascii " urgent")) u)
+    let b = c .before .before .before .before .before .before .before .before in
+    let u = b .before .before .before .before .before .before .before .before .before .before .before .skip .ensures in
+    let d = b .before .before .before .before .before .before .before .before .before .after-flag .ensures ∙ ap (afterFlag (ascii " urgent")) u in
+    let n = b .before .before .before .before .before .before .before .after-flag2 .ensures ∙ ap (afterFlag (ascii " update")) d in
+    let t = b .before .before .before .before .before .after-flag3 .ensures ∙ ap (afterFlag (ascii " cancel")) n in
+    let e = b .before .before .before .after-flag4 .ensures ∙ ap (afterFlag (ascii " test")) t in
+    let o = b .before .before .origin-of .ensures in
+    let h = b .hazard-of .ensures ∙ ap hazardOf (b .before .last .ensures ∙ last-is (b .before .before .before .after-flag4 .result .now) o) in
+    warn-is _ e o h (c .before .before .before .before .before .before .starts-with .ensures ∙ ap (startsWith (ascii " urgent")) u)
     (c .before .before .before .before .starts-with2 .ensures ∙ ap (startsWith (ascii " update")) d)
     (c .before .before .starts-with3 .ensures ∙ ap (startsWith (ascii " cancel")) n)
     (c .starts-with4 .ensures ∙ ap (startsWith (ascii " test")) t)
@@ -27,5 +28,5 @@ returns c =
 pub warn-of-spec : {M : Type 1} → statement M
 warn-of-spec =
     tie.close
-    (tie.spec _ (λ c. search needs) _ (λ c. search needs) _ (λ c. search needs) _ (λ c. search needs) _ _ _ _ (λ c. search needs) _ (λ c. search needs) _
-    (λ c. search needs) _ (λ c. search needs) _ returns)
+    (tie.spec _ (λ c. search needs) _ (λ c. search needs) _ (λ c. search needs) _ (λ c. search needs) _ _ _ _ (λ c. search needs) _
+    (λ c. search needs) _ (λ c. search needs) _ (λ c. search needs) _ returns)

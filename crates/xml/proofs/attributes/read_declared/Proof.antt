@@ -4,7 +4,7 @@ use native.Mathlib.Omega.{arith}
 use borrow.Author.Needs.{needs}
 use Rattle.text.specs.Ascii.{ascii}
 use Rattle.xml.specs.Attributes.{declared}
-use Rattle.xml.proofs.Places.{starts-within}
+use Rattle.xml.proofs.Offsets.{starts-at-le}
 use Rattle.xml.proofs.attributes.read_declared.Tie as tie
 use Rattle.xml.proofs.attributes.read_declared.Statement.{statement}
 
@@ -13,8 +13,11 @@ unfolding declared
 read-declared-spec =
     tie.close
     (tie.spec (λ c. search needs) (λ c κs. search needs)
-    (λ c. omega (arith, starts-within (ascii ":") (c .before .before .before .before .args .s .now) (c .before .before .before .before .args .at) (omega arith) (sym (c .before .starts-at .ensures) ∙ c .if1 .taken)))
-    (λ c. omega (arith, starts-within (ascii ":") (c .before .before .before .before .args .s .now) (c .before .before .before .before .args .at) (omega arith) (sym (c .before .starts-at .ensures) ∙ c .if1 .taken)))
+    (λ c. let a = c .before .before .before .before .args in
+    omega (arith, starts-at-le (ascii ":") (a .s .now) (a .at) (omega arith) (sym (c .before .starts-at .ensures) ∙ c .if1 .taken)))
+    (λ c. let a = c .before .before .before .before .args in
+    omega (arith, starts-at-le (ascii ":") (a .s .now) (a .at) (omega arith) (sym (c .before .starts-at .ensures) ∙ c .if1 .taken)))
     (λ c κs. search needs) (λ c κs. search needs)
-    (λ c. rw (sym (c .before .before .before .starts-at .ensures) ∙ c .before .before .if1 .taken, ← (c .before .skip-letters .ensures)) (c .read-prefixed .ensures))
+    (λ c. rw (sym (c .before .before .before .starts-at .ensures) ∙ c .before .before .if1 .taken, ← (c .before .skip-letters .ensures))
+    (c .read-prefixed .ensures))
     (λ c κs. search needs) (λ c. rw (sym (c .before .before .starts-at .ensures) ∙ c .before .if1 .left) (c .read-equals .ensures)))

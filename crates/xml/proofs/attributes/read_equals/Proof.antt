@@ -4,7 +4,7 @@ use native.Mathlib.Omega.{arith}
 use borrow.Author.Needs.{needs}
 use Rattle.text.specs.Ascii.{ascii}
 use Rattle.xml.specs.Attributes.{equals}
-use Rattle.xml.proofs.Places.{starts-within}
+use Rattle.xml.proofs.Offsets.{starts-at-le}
 use Rattle.xml.proofs.attributes.read_equals.Tie as tie
 use Rattle.xml.proofs.attributes.read_equals.Statement.{statement}
 
@@ -13,7 +13,10 @@ unfolding equals
 read-equals-spec =
     tie.close
     (tie.spec (λ c κs. search needs) (λ c. search needs) (λ c κs. search needs)
-    (λ c. omega (arith, starts-within (ascii "=") (c .before .before .before .before .before .args .s .now) (c .before .before .before .skip-space .result) (omega arith) (sym (c .before .starts-at .ensures) ∙ c .if1 .taken)))
+    (λ c. let b = c .before .before .before in let e = sym (c .before .starts-at .ensures) ∙ c .if1 .taken in
+    omega (arith, starts-at-le (ascii "=") (b .before .before .args .s .now) (b .skip-space .result) (omega arith) e))
     (λ c κs. search needs) (λ c κs. search needs)
-    (λ c. rw (← (c .before .before .before .before .before .skip-space .ensures), sym (c .before .before .before .starts-at .ensures) ∙ c .before .before .if1 .taken, ← (c .before .skip-space2 .ensures)) (c .read-value .ensures))
+    (λ c. let b = c .before .before .before in
+    rw (← (b .before .before .skip-space .ensures), sym (b .starts-at .ensures) ∙ c .before .before .if1 .taken, ← (c .before .skip-space2 .ensures))
+    (c .read-value .ensures))
     (λ c. rw (← (c .before .before .before .skip-space .ensures), sym (c .before .starts-at .ensures) ∙ c .if1 .left)))

@@ -6,7 +6,7 @@ use lib.Dec.{ltb}
 use Rattle.text.specs.Ascii.{ascii}
 use Rattle.text.specs.Logic.{and-right}
 use Rattle.xml.specs.Attributes.{nameSpace}
-use Rattle.xml.proofs.Places.{starts-within}
+use Rattle.xml.proofs.Offsets.{starts-at-le}
 use Rattle.xml.proofs.attributes.read_name_space.Tie as tie
 use Rattle.xml.proofs.attributes.read_name_space.Statement.{statement}
 
@@ -15,7 +15,10 @@ unfolding nameSpace
 read-name-space-spec =
     tie.close
     (tie.spec (λ c κs. search needs) (λ c. search needs) (λ c κs. search needs)
-    (λ c. omega (arith, starts-within (ascii "xmlns") (c .before .before .before .before .before .args .s .now) (c .before .before .before .skip-space .result) (omega arith) (sym (c .before .starts-at .ensures) ∙ and-right (ltb (c .before .before .before .before .before .args .n) (c .before .before .before .skip-space .result)) _ (c .if1 .taken))))
+    (λ c. let b = c .before .before .before in
+    let e = sym (c .before .starts-at .ensures) ∙ and-right (ltb (b .before .before .args .n) (b .skip-space .result)) _ (c .if1 .taken) in
+    omega (arith, starts-at-le (ascii "xmlns") (b .before .before .args .s .now) (b .skip-space .result) (omega arith) e))
     (λ c κs. search needs)
-    (λ c. rw (← (c .before .before .before .before .skip-space .ensures), ← (c .before .before .starts-at .ensures), c .before .if1 .taken) (c .read-declared .ensures))
+    (λ c. rw (← (c .before .before .before .before .skip-space .ensures), ← (c .before .before .starts-at .ensures), c .before .if1 .taken)
+    (c .read-declared .ensures))
     (λ c. rw (← (c .before .before .before .skip-space .ensures), ← (c .before .starts-at .ensures), c .if1 .left)))

@@ -8,11 +8,9 @@ use Rattle.xml.proofs.attributes.read_value.Statement.{statement}
 
 add-read-tail : tie.Need-add-read-tail
 add-read-tail c =
-    omega (
-      arith,
-      value-within (c .before .before .before .before .before .before .args .s .now) (c .before .before .before .before .before .before .args .at)
-          (c .before .before .before .starts-at .ensures) (c .before .starts-at2 .ensures) (c .if1 .taken),
-    )
+    let b = c .before .before .before in
+    let a = b .before .before .before .args in
+    omega (arith, value-within (a .s .now) (a .at) (b .starts-at .ensures) (c .before .starts-at2 .ensures) (c .if1 .taken))
 
 pub read-value-spec : {M : Type 1} → statement M
 unfolding value
@@ -20,5 +18,7 @@ read-value-spec =
     tie.close
     (tie.spec (λ c. search needs) (λ c κs. search needs) (λ c. search needs) (λ c κs. search needs) add-read-tail (λ c κs. search needs)
     (λ c κs. search needs)
-    (λ c. rw (← (c .before .before .before .before .before .starts-at .ensures), ← (c .before .before .before .starts-at2 .ensures), c .before .before .if1 .taken, ← (c .before .read-tail .ensures)) (c .bind .ensures))
+    (λ c. let b = c .before .before .before in
+    rw (← (b .before .before .starts-at .ensures), ← (b .starts-at2 .ensures), c .before .before .if1 .taken, ← (c .before .read-tail .ensures))
+    (c .bind .ensures))
     (λ c. rw (← (c .before .before .before .starts-at .ensures), ← (c .before .starts-at2 .ensures), c .if1 .left)))

@@ -20,6 +20,8 @@ pub skip-letters-spec : {M : Type 1} → statement M
 skip-letters-spec =
     tie.close
     (tie.spec Inv-loop μ-loop (λ c. refl) (λ c. search needs) (λ c κs. search needs) (λ c. omega arith) (λ c. omega arith)
-    (λ c. run-on isLetter _ _ _ (c .before .before .before .before .loop .inv) (c .before .before .before .loop-test .taken) (c .before .is-letter .ensures) (c .if1 .taken))
-    (λ c. run-stop isLetter _ _ _ (c .before .before .before .before .loop .inv) (c .before .before .before .loop-test .taken) (c .before .is-letter .ensures) (c .if1 .left))
+    (λ c. let b = c .before .before .before in
+    run-on _ _ _ _ (b .before .loop .inv) (b .loop-test .taken) (c .before .is-letter .ensures) (c .if1 .taken))
+    (λ c. let b = c .before .before .before in
+    run-stop _ _ _ _ (b .before .loop .inv) (b .loop-test .taken) (c .before .is-letter .ensures) (c .if1 .left))
     (λ c. run-end isLetter _ _ _ (c .before .loop .inv) (c .loop-test .left)))

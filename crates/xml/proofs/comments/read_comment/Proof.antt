@@ -9,7 +9,11 @@ use Rattle.xml.proofs.comments.read_comment.Tie as tie
 use Rattle.xml.proofs.comments.read_comment.Statement.{statement}
 
 add-t7 : tie.Need-add-t7
-add-t7 c = omega (arith, ends-with (ascii "-->") isFault (c .before .before .before .before .before .args .s .now) (c .before .before .before .before .before .args .at) _ (omega arith) (sym (c .before .before .before .read-comment-text .ensures) ∙ c .before .body .given .1))
+add-t7 c =
+    let b = c .before .before .before in
+    let a = b .before .before .args in
+    let e = sym (b .read-comment-text .ensures) ∙ c .before .body .given .1 in
+    omega (arith, ends-with (ascii "-->") isFault (a .s .now) (a .at) _ (omega arith) e)
 
 returns : tie.Need-returns
 unfolding comment
@@ -24,4 +28,5 @@ unfolding comment
 returns-3 c = ap commentOf (sym (c .enum-told .given .1) ∙ c .before .before .read-comment-text .ensures)
 
 pub read-comment-spec : {M : Type 1} → statement M
-read-comment-spec = tie.close (tie.spec (λ c κs. search needs) (λ c. search needs) add-t7 (λ c. search needs) (λ c. search needs) returns returns-2 returns-3)
+read-comment-spec =
+    tie.close (tie.spec (λ c κs. search needs) (λ c. search needs) add-t7 (λ c. search needs) (λ c. search needs) returns returns-2 returns-3)

@@ -7,4 +7,5 @@ use Rattle.xml.proofs.faults.faulty.Statement.{statement}
 pub faulty-spec : {M : Type 1} → statement M
 faulty-spec =
     tie.close
-    (tie.spec (λ c κs. search needs) (λ c. rw (sym (c .before .holds .ensures) ∙ c .if1 .taken)) (λ c. rw (sym (c .before .holds .ensures) ∙ c .if1 .left)))
+    (tie.spec (λ c κs. search needs) (λ c. rw (sym (c .before .holds .ensures) ∙ c .if1 .taken))
+    (λ c. rw (sym (c .before .holds .ensures) ∙ c .if1 .left)))

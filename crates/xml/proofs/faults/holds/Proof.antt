@@ -1,4 +1,4 @@
--- From each place on p stands somewhere if it does from the start on.
+-- From each offset on p stands somewhere if it does from the start on.
 use mathlib.Core.Path.{_≡_, refl}
 use Prim.Native.Nat.{_-_}
 use native.Mathlib.Omega.{arith}
@@ -20,7 +20,9 @@ pub holds-spec : {M : Type 1} → statement M
 holds-spec =
     tie.close
     (tie.spec Inv-loop μ-loop (λ c. refl) (λ c κs. search needs)
-    (λ c. holds-here (startsWith _) _ _ _ (c .before .before .before .loop .inv) (c .before .before .loop-test .taken) (c .before .starts-at .ensures) (c .if1 .taken))
+    (λ c. let b = c .before .before in
+    holds-here (startsWith _) _ _ _ (b .before .loop .inv) (b .loop-test .taken) (c .before .starts-at .ensures) (c .if1 .taken))
     (λ c. omega arith) (λ c. omega arith)
-    (λ c. holds-on (startsWith _) _ _ _ (c .before .before .before .loop .inv) (c .before .before .loop-test .taken) (c .before .starts-at .ensures) (c .if1 .left))
+    (λ c. let b = c .before .before in
+    holds-on (startsWith _) _ _ _ (b .before .loop .inv) (b .loop-test .taken) (c .before .starts-at .ensures) (c .if1 .left))
     (λ c. holds-none (startsWith _) _ _ _ (c .before .loop .inv) (c .loop-test .left)))

@@ -5,7 +5,9 @@ use Rattle.xml.proofs.opening.declares.Tie as tie
 use Rattle.xml.proofs.opening.declares.Statement.{statement}
 
 returns-2 : tie.Need-returns-2
-returns-2 c = declares-is (c .before .before .before .before .before .before .args .s .now) (c .before .before .before .before .before .before .args .at) _ _ (c .before .before .starts-at .ensures) (c .is-space .ensures)
+returns-2 c =
+    let a = c .before .before .before .before .before .before .args in
+    declares-is (a .s .now) (a .at) _ _ (c .before .before .starts-at .ensures) (c .is-space .ensures)
 
 pub declares-spec : {M : Type 1} → statement M
 declares-spec =

@@ -34,6 +34,10 @@ pub read-declaration-spec : {M : Type 1} → statement M
 read-declaration-spec =
     tie.close
     (tie.spec (λ c. search needs) (λ c κs. search needs) (λ c. search needs)
-    (λ c. omega (arith, ends-with (ascii "?>") (ledBy isControl) (c .before .before .before .before .before .args .s .now) (c .before .before .before .before .before .args .at + 6) _ (omega arith) (sym (c .before .before .before .read-declaration-text .ensures) ∙ c .before .body .given .1)))
-    (λ c. omega (arith, ends-with (ascii "?>") (ledBy isControl) (c .before .before .before .before .before .args .s .now) (c .before .before .before .before .before .args .at + 6) _ (omega arith) (sym (c .before .before .before .read-declaration-text .ensures) ∙ c .before .body .given .1)))
+    (λ c. let b = c .before .before .before in let a = b .before .before .args in
+    let e = sym (b .read-declaration-text .ensures) ∙ c .before .body .given .1 in
+    omega (arith, ends-with (ascii "?>") (ledBy isControl) (a .s .now) (a .at + 6) _ (omega arith) e))
+    (λ c. let b = c .before .before .before in let a = b .before .before .args in
+    let e = sym (b .read-declaration-text .ensures) ∙ c .before .body .given .1 in
+    omega (arith, ends-with (ascii "?>") (ledBy isControl) (a .s .now) (a .at + 6) _ (omega arith) e))
     (λ c. search needs) returns (λ c. search needs) (λ c. search needs) returns-2 returns-3 returns-4)

@@ -11,5 +11,6 @@ unfolding prolog
 read-prolog-spec =
     tie.close
     (tie.spec (λ c κs. search needs) (λ c κs. bom-le _ _ (c .after-bom .ensures)) (λ c κs. bom-le _ _ (c .before .before .after-bom .ensures))
-    (λ c. rw (← (c .before .before .before .after-bom .ensures), sym (c .before .before .declares .ensures) ∙ c .before .if1 .taken) (c .read-declaration .ensures))
+    (λ c. rw (← (c .before .before .before .after-bom .ensures), sym (c .before .before .declares .ensures) ∙ c .before .if1 .taken)
+    (c .read-declaration .ensures))
     (λ c. rw (← (c .before .before .after-bom .ensures), sym (c .before .declares .ensures) ∙ c .if1 .left)))

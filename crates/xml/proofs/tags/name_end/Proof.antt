@@ -20,6 +20,8 @@ pub name-end-spec : {M : Type 1} → statement M
 name-end-spec =
     tie.close
     (tie.spec Inv-loop μ-loop (λ c. refl) (λ c. search needs) (λ c κs. search needs) (λ c. omega arith) (λ c. omega arith)
-    (λ c. run-on isTagByte _ _ _ (c .before .before .before .before .loop .inv) (c .before .before .before .loop-test .taken) (c .before .is-tag-byte .ensures) (c .if1 .taken))
-    (λ c. run-stop isTagByte _ _ _ (c .before .before .before .before .loop .inv) (c .before .before .before .loop-test .taken) (c .before .is-tag-byte .ensures) (c .if1 .left))
+    (λ c. let b = c .before .before .before in
+    run-on _ _ _ _ (b .before .loop .inv) (b .loop-test .taken) (c .before .is-tag-byte .ensures) (c .if1 .taken))
+    (λ c. let b = c .before .before .before in
+    run-stop _ _ _ _ (b .before .loop .inv) (b .loop-test .taken) (c .before .is-tag-byte .ensures) (c .if1 .left))
     (λ c. run-end isTagByte _ _ _ (c .before .loop .inv) (c .loop-test .left)))

@@ -4,7 +4,7 @@ use native.Mathlib.Omega.{arith}
 use borrow.Author.Needs.{needs}
 use Rattle.text.specs.Ascii.{ascii}
 use Rattle.xml.specs.Tags.{tail}
-use Rattle.xml.proofs.Places.{starts-within}
+use Rattle.xml.proofs.Offsets.{starts-at-le}
 use Rattle.xml.proofs.tags.read_tail.Tie as tie
 use Rattle.xml.proofs.tags.read_tail.Statement.{statement}
 
@@ -13,9 +13,13 @@ unfolding tail
 read-tail-spec =
     tie.close
     (tie.spec (λ c κs. search needs) (λ c. search needs) (λ c κs. search needs)
-    (λ c. omega (arith, starts-within (ascii ">") (c .before .before .before .before .before .args .s .now) (c .before .before .before .skip-space .result) (omega arith) (sym (c .before .starts-at .ensures) ∙ c .if1 .taken)))
+    (λ c. let b = c .before .before .before in let e = sym (c .before .starts-at .ensures) ∙ c .if1 .taken in
+    omega (arith, starts-at-le (ascii ">") (b .before .before .args .s .now) (b .skip-space .result) (omega arith) e))
     (λ c. rw (← (c .before .before .before .skip-space .ensures), sym (c .before .starts-at .ensures) ∙ c .if1 .taken))
     (λ c. search needs) (λ c κs. search needs)
-    (λ c. omega (arith, starts-within (ascii "/>") (c .before .before .before .before .before .before .before .before .args .s .now) (c .before .before .before .before .before .before .skip-space .result) (omega arith) (sym (c .before .starts-at2 .ensures) ∙ c .if2 .taken)))
-    (λ c. rw (← (c .before .before .before .before .before .before .skip-space .ensures), sym (c .before .before .before .before .starts-at .ensures) ∙ c .before .before .before .if1 .left, sym (c .before .starts-at2 .ensures) ∙ c .if2 .taken))
-    (λ c. rw (← (c .before .before .before .before .before .before .skip-space .ensures), sym (c .before .before .before .before .starts-at .ensures) ∙ c .before .before .before .if1 .left, sym (c .before .starts-at2 .ensures) ∙ c .if2 .left)))
+    (λ c. let b = c .before .before .before .before .before .before in let e = sym (c .before .starts-at2 .ensures) ∙ c .if2 .taken in
+    omega (arith, starts-at-le (ascii "/>") (b .before .before .args .s .now) (b .skip-space .result) (omega arith) e))
+    (λ c. let b = c .before .before .before in let e = sym (c .before .starts-at2 .ensures) ∙ c .if2 .taken in
+    rw (← (b .before .before .before .skip-space .ensures), sym (b .before .starts-at .ensures) ∙ b .if1 .left, e))
+    (λ c. let b = c .before .before .before in let e = sym (c .before .starts-at2 .ensures) ∙ c .if2 .left in
+    rw (← (b .before .before .before .skip-space .ensures), sym (b .before .starts-at .ensures) ∙ b .if1 .left, e)))

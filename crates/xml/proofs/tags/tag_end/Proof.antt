@@ -1,4 +1,4 @@
--- From each place on, in the quote that is open there, the tag ends where it ends from the start on.
+-- From each offset on, in the quote that is open there, the tag ends where it ends from the start on.
 use mathlib.Core.Path.{_≡_, refl, sym, _∙_}
 use Prim.Native.Nat.{_-_}
 use native.Mathlib.Omega.{arith}
@@ -19,7 +19,9 @@ returns : tie.Need-returns Inv-loop μ-loop
 returns c = sym (tag-stop _ _ _ (c .before .before .loop-test .taken) (c .if1 .taken)) ∙ c .before .before .before .loop .inv
 
 loop-again : tie.Need-loop-again Inv-loop μ-loop
-loop-again c = sym (tag-on _ _ _ _ (c .before .before .before .loop-test .taken) (c .before .if1 .left) (c .quote-after .ensures)) ∙ c .before .before .before .before .loop .inv
+loop-again c =
+    sym (tag-on _ _ _ _ (c .before .before .before .loop-test .taken) (c .before .if1 .left) (c .quote-after .ensures))
+    ∙ c .before .before .before .before .loop .inv
 
 returns-2 : tie.Need-returns-2 Inv-loop μ-loop
 returns-2 c = sym (tag-none _ _ _ (c .loop-test .left)) ∙ c .before .loop .inv

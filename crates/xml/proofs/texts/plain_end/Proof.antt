@@ -19,7 +19,10 @@ abbrev μ-loop : tie.MeasureT-loop
 pub plain-end-spec : {M : Type 1} → statement M
 plain-end-spec =
     tie.close
-    (tie.spec Inv-loop μ-loop (λ c κs. search needs) (λ c. c .skip-blocks .ensures) (λ c. search needs) (λ c κs. search needs) (λ c. omega arith) (λ c. omega arith)
-    (λ c. run-on isPlain _ _ _ (c .before .before .before .before .loop .inv) (c .before .before .before .loop-test .taken) (c .before .is-plain .ensures) (c .if1 .taken))
-    (λ c. run-stop isPlain _ _ _ (c .before .before .before .before .loop .inv) (c .before .before .before .loop-test .taken) (c .before .is-plain .ensures) (c .if1 .left))
+    (tie.spec Inv-loop μ-loop (λ c κs. search needs) (λ c. c .skip-blocks .ensures) (λ c. search needs) (λ c κs. search needs)
+    (λ c. omega arith) (λ c. omega arith)
+    (λ c. let b = c .before .before .before in
+    run-on _ _ _ _ (b .before .loop .inv) (b .loop-test .taken) (c .before .is-plain .ensures) (c .if1 .taken))
+    (λ c. let b = c .before .before .before in
+    run-stop _ _ _ _ (b .before .loop .inv) (b .loop-test .taken) (c .before .is-plain .ensures) (c .if1 .left))
     (λ c. run-end isPlain _ _ _ (c .before .loop .inv) (c .loop-test .left)))
