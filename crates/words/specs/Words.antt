@@ -7,7 +7,7 @@ use lib.Dec.{eqb, ltb}
 use lib.ListN.{getD, drop}
 use Rattle.text.specs.Ascii.{ascii}
 
--- ---- the words, and their codes: their indexes in this list
+-- ---- the words, and their codes: their indices in this list
 
 unfoldable pub dictionary : List (List ℕ)
 dictionary =
