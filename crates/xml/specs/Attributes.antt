@@ -1,10 +1,10 @@
 -- The attribute of the alert start tag.
-use mathlib.Core.Bool.{Bool, cond, not, _&&_, _||_}
+use mathlib.Core.Bool.{cond, _&&_, _||_}
 use mathlib.Core.List.{List, [], _∷_, _++_}
 use Prim.Native.Nat.{ℕ, _+_, _-_}
 use Prim.Native.Char.{code}
-use lib.Dec.{eqb, leb, ltb}
-use lib.ListN.{drop, length}
+use lib.Dec.{leb, ltb}
+use lib.ListN.{drop}
 use Rattle.text.specs.Ascii.{ascii}
 use Rattle.text.specs.Bytes.{spaces}
 use Rattle.text.specs.Parts.{startsWith}

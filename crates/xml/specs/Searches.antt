@@ -1,5 +1,5 @@
 -- Texts that run to an end, and the first fault in them.
-use mathlib.Core.Bool.{Bool, true, false, cond, _||_}
+use mathlib.Core.Bool.{Bool, false, cond, _||_}
 use mathlib.Core.List.{List, [], _∷_}
 use Prim.Native.Nat.{ℕ, _+_}
 use Rattle.xml.specs.declared.Content.{Content}

@@ -1,5 +1,5 @@
 -- Tags: where one ends, and what ends one. An offset is carried along, so that each answer is an offset of the whole document.
-use mathlib.Core.Bool.{Bool, cond, not, _&&_, _||_}
+use mathlib.Core.Bool.{cond, _&&_, _||_}
 use mathlib.Core.List.{List, [], _∷_}
 use Prim.Native.Nat.{ℕ, _+_}
 use Prim.Native.Char.{code}

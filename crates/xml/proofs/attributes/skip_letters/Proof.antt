@@ -24,4 +24,4 @@ skip-letters-spec =
     run-on _ _ _ _ (b .before .loop .inv) (b .loop-test .taken) (c .before .is-letter .ensures) (c .if1 .taken))
     (λ c. let b = c .before .before .before in
     run-stop _ _ _ _ (b .before .loop .inv) (b .loop-test .taken) (c .before .is-letter .ensures) (c .if1 .left))
-    (λ c. run-end isLetter _ _ _ (c .before .loop .inv) (c .loop-test .left)))
+    (λ c. run-end _ _ _ _ (c .before .loop .inv) (c .loop-test .left)))

@@ -21,8 +21,8 @@ holds-spec =
     tie.close
     (tie.spec Inv-loop μ-loop (λ c. refl) (λ c κs. search needs)
     (λ c. let b = c .before .before in
-    holds-here (startsWith _) _ _ _ (b .before .loop .inv) (b .loop-test .taken) (c .before .starts-at .ensures) (c .if1 .taken))
+    holds-here _ _ _ _ (b .before .loop .inv) (b .loop-test .taken) (c .before .starts-at .ensures) (c .if1 .taken))
     (λ c. omega arith) (λ c. omega arith)
     (λ c. let b = c .before .before in
-    holds-on (startsWith _) _ _ _ (b .before .loop .inv) (b .loop-test .taken) (c .before .starts-at .ensures) (c .if1 .left))
-    (λ c. holds-none (startsWith _) _ _ _ (c .before .loop .inv) (c .loop-test .left)))
+    holds-on _ _ _ _ (b .before .loop .inv) (b .loop-test .taken) (c .before .starts-at .ensures) (c .if1 .left))
+    (λ c. holds-none _ _ _ _ (c .before .loop .inv) (c .loop-test .left)))

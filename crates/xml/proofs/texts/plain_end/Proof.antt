@@ -25,4 +25,4 @@ plain-end-spec =
     run-on _ _ _ _ (b .before .loop .inv) (b .loop-test .taken) (c .before .is-plain .ensures) (c .if1 .taken))
     (λ c. let b = c .before .before .before in
     run-stop _ _ _ _ (b .before .loop .inv) (b .loop-test .taken) (c .before .is-plain .ensures) (c .if1 .left))
-    (λ c. run-end isPlain _ _ _ (c .before .loop .inv) (c .loop-test .left)))
+    (λ c. run-end _ _ _ _ (c .before .loop .inv) (c .loop-test .left)))

@@ -5,9 +5,7 @@ use native.Mathlib.Omega.{arith}
 use lib.ListN.{length}
 use borrow.Author.Needs.{needs}
 use borrow.Author.Tests.{eq-eqb, ne-eqb}
-use Rattle.text.specs.Ascii.{ascii}
-use Rattle.text.specs.Parts.{startsWith}
-use Rattle.xml.specs.Texts.{isFault, content}
+use Rattle.xml.specs.Texts.{content}
 use Rattle.xml.proofs.Searches.{up-on, up-stop, up-fault, up-none}
 use Rattle.xml.proofs.Contents.{end-is, content-run}
 use Rattle.xml.proofs.texts.read_text.Tie as tie
@@ -23,15 +21,14 @@ returns : tie.Need-returns Inv-loop μ-loop
 unfolding content
 returns c =
     let b = c .before .before in
-    up-stop (startsWith (ascii "<")) isFault _ _ _ (b .before .loop .inv) (b .loop-test .taken) (end-is _ _ (b .loop-test .taken))
-    (eq-eqb _ _ (c .if1 .taken))
+    up-stop _ _ _ _ _ (b .before .loop .inv) (b .loop-test .taken) (end-is _ _ (b .loop-test .taken)) (eq-eqb _ _ (c .if1 .taken))
 
 returns-2 : tie.Need-returns-2 Inv-loop μ-loop
 unfolding content
 returns-2 c =
     let b = c .before .before .before .before in
     let h = b .before .before .loop-test .taken in
-    up-fault (startsWith (ascii "<")) isFault _ _ _ (b .before .before .before .loop .inv) h (end-is _ _ h) (ne-eqb _ _ (b .if1 .left))
+    up-fault _ _ _ _ _ (b .before .before .before .loop .inv) h (end-is _ _ h) (ne-eqb _ _ (b .if1 .left))
     (c .before .before .before .is-fault .ensures) (c .before .before .if2 .taken) (c .faulty .ensures)
 
 loop-again : tie.Need-loop-again Inv-loop μ-loop
@@ -40,12 +37,12 @@ loop-again c =
     let b = c .before .before .before in
     let h = b .before .before .loop-test .taken in
     content-run _ _ _ (c .plain-end2 .ensures)
-    ∙ up-on (startsWith (ascii "<")) isFault _ _ _ (b .before .before .before .loop .inv) h (end-is _ _ h) (ne-eqb _ _ (b .if1 .left))
+    ∙ up-on _ _ _ _ _ (b .before .before .before .loop .inv) h (end-is _ _ h) (ne-eqb _ _ (b .if1 .left))
     (c .before .before .is-fault .ensures) (c .before .if2 .left)
 
 returns-3 : tie.Need-returns-3 Inv-loop μ-loop
 unfolding content
-returns-3 c = up-none (startsWith (ascii "<")) isFault _ _ _ (c .before .loop .inv) (c .loop-test .left)
+returns-3 c = up-none _ _ _ _ _ (c .before .loop .inv) (c .loop-test .left)
 
 pub read-text-spec : {M : Type 1} → statement M
 read-text-spec =
