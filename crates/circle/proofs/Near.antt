@@ -13,7 +13,7 @@ use mir.Val.{Fits, SFits}
 use mir.Facts.{toZ-ofZ}
 use Rattle.coordinates.specs.declared.Place.{Place}
 use Rattle.coordinates.specs.declared.Inclusion.the-variants.{Inside, Outside, Fault}
-use Rattle.integers.specs.Bits.{read, read-given-32, apart}
+use Rattle.integers.specs.Bits.{read, read-given, apart}
 use Rattle.integers.specs.Magnitude.{abs-sub-zero}
 use Rattle.circle.specs.Cosine.{cosines}
 use Rattle.circle.specs.Circle.{cosineAt, unitsOf, withinSquares, inCircle, aroundHolds}
@@ -76,7 +76,7 @@ module _ (c : Place) (metres : ℕ) (p : Place) where
   module _ (h : metres ≤ 20_000_000) (hcy : mag (c .lat) < 2_147_483_648) (hcx : mag (c .lon) < 2_147_483_648) (hpy : mag (p .lat) < 2_147_483_648) (hpx : mag (p .lon) < 2_147_483_648) (u : ℕ) (eu : u ≡ unitsOf metres) (r : Bool) (er : r ≡ withinSquares (natAbs (read w32 (p .lon) -ℤ read w32 (c .lon)) * cosineAt (read w32 (c .lat)) / 1_000_000) (natAbs (read w32 (p .lat) -ℤ read w32 (c .lat))) u) where
     plain : r ≡ inCircle c metres p
     unfolding inCircle
-    plain = er ∙ rw (read-given-32 (c .lat) hcy, read-given-32 (c .lon) hcx, read-given-32 (p .lat) hpy, read-given-32 (p .lon) hpx, eu)
+    plain = er ∙ rw (read-given w32 (c .lat) hcy, read-given w32 (c .lon) hcx, read-given w32 (p .lat) hpy, read-given w32 (p .lon) hpx, eu)
 
     -- the answer, by whether the place is near
     pub is-side : aroundHolds c metres p ≡ cond r Inside Outside

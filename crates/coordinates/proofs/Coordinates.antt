@@ -15,7 +15,7 @@ use mir.Val.{SFits, toZ, ofZ}
 use mir.Facts.{toZ-pos, toZ-ofZ}
 use Rattle.text.specs.Logic.{by-test, first-arm, second-arm, clash}
 use Rattle.integers.specs.Magnitude.{abs-neg, mag-abs, signed}
-use Rattle.integers.specs.Bits.{read, read-given-32}
+use Rattle.integers.specs.Bits.{read, read-given}
 use Rattle.coordinates.specs.Decimal.{leads, scaled, decimalLength, decimalAt}
 use Rattle.coordinates.specs.Place.{signLength, unsigned, isCoordinate, coordinateValue, coordinateAt}
 use Rattle.coordinates.specs.declared.Decimal.the-variants as decimal
@@ -84,7 +84,7 @@ module _ (s : List ℕ) (at limit start : ℕ) (b : start ≡ at + signLength (d
     unfolding coordinateAt
     within-limit h minus p z v g =
         let x : e ≡ at + (signLength (drop at s) + decimalLength (unsigned (drop at s))) = omega (arith, given .end) in
-        rw (given .is, le-leb (scaled 7 (unsigned (drop at s))) limit (rw (given .value) at h), read-given-32 z g, v, signed-is minus m, p, given .value, x)
+        rw (given .is, le-leb (scaled 7 (unsigned (drop at s))) limit (rw (given .value) at h), read-given w32 z g, v, signed-is minus m, p, given .value, x)
 
 -- ---- what a coordinate that was read says
 

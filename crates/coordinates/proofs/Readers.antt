@@ -12,7 +12,7 @@ use lib.Signed.{mag}
 use lib.ListN.{length, drop}
 use mir.Syntax.{w32}
 use Rattle.text.specs.Logic.{clash}
-use Rattle.integers.specs.Bits.{read, read-given-32}
+use Rattle.integers.specs.Bits.{read, read-given}
 use Rattle.coordinates.specs.Decimal.{leads}
 use Rattle.coordinates.specs.Place.{latitudeLimit, longitudeLimit, coordinateAt, leadingPair, standingAt, pairOf}
 use Rattle.coordinates.specs.declared.Coordinate.the-variants as coordinate
@@ -52,7 +52,7 @@ module _ (s : List ℕ) (i : ℕ) where
       pub both : (x : ℤ) (k : ℕ) → coordinateAt longitudeLimit (e + 1) (drop (e + 1) s) ≡ coordinate.Value x k → mag y < 2_147_483_648 → mag x < 2_147_483_648 → leading.At (record { lat = read w32 y; lon = read w32 x }) k ≡ standingAt i (leadingPair (drop i s))
       both x k d gy gx =
           let n : k ≡ i + (e - i + 1 + (k - (e + 1))) = omega (arith, start, coordinate-start longitudeLimit (e + 1) (drop (e + 1) s) x k d) in
-          rw (latitude, comma, h, rest, from-place longitudeLimit (e + 1) (drop (e + 1) s) (e - i + 1) x k d, read-given-32 y gy, read-given-32 x gx, ← n)
+          rw (latitude, comma, h, rest, from-place longitudeLimit (e + 1) (drop (e + 1) s) (e - i + 1) x k d, read-given w32 y gy, read-given w32 x gx, ← n)
 
 -- ---- a pair, from what stands at place i
 

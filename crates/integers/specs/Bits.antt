@@ -1,13 +1,13 @@
 -- A signed local holds bits: `toZ w` reads the integer that they are in two's complement, `ofZ w` makes them. Laws of operations over integers that are read back from their bits, in the form in which the checker asks for them.
 use mathlib.Core.Path.{_≡_, _∙_}
 use mathlib.Core.Bool.{true, false}
-use Prim.Native.Nat.{ℕ, _≤_, _<_}
+use Prim.Native.Nat.{ℕ, _^_, _≤_, _<_}
 use native.Mathlib.Omega.{arith}
 use lib.Dec.{T}
 use lib.IntN.{ℤ, pos, natAbs, _-ℤ_}
 use lib.Signed.{mag, nonNeg}
 use mir.Syntax.{Width, w32, w64}
-use mir.Val.{Fits, SFits, toZ, ofZ}
+use mir.Val.{hbits, Fits, SFits, toZ, ofZ}
 use mir.Facts.{toZ-ofZ, sfits-widen}
 use Rattle.integers.specs.Magnitude.{abs-sub-mag, mag-abs, isNegative, not-negative, negated-is as negated-of}
 
@@ -19,11 +19,8 @@ pub fits-abs : (z : ℤ) → natAbs z ≤ 9_223_372_036_854_775_807 → SFits w6
 fits-abs z h = record { sfits = mag-abs z 9_223_372_036_854_775_808 (omega arith) }
 
 -- what a callee gave, or a struct's field: its range is a fact on the magnitude
-pub read-given-32 : (z : ℤ) → mag z < 2_147_483_648 → read w32 z ≡ z
-read-given-32 z h = toZ-ofZ {w = w32} (record { sfits = h })
-
-pub read-given : (z : ℤ) → mag z < 9_223_372_036_854_775_808 → read w64 z ≡ z
-read-given z h = toZ-ofZ {w = w64} (record { sfits = h })
+pub read-given : (w : Width) (z : ℤ) → mag z < 2 ^ hbits w → read w z ≡ z
+read-given w z h = toZ-ofZ {w = w} (record { sfits = h })
 
 pub read-small : (z : ℤ) → natAbs z ≤ 9_223_372_036_854_775_807 → read w64 z ≡ z
 read-small z h = toZ-ofZ (fits-abs z h)
