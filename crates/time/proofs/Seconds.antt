@@ -27,7 +27,7 @@ epoch-reads = record { is = ap pos epoch-is }
 module _ (t : Stamp) (b : Stamped t) where
   local-le : localSeconds t ≤ 317_000_000_000
   unfolding localSeconds
-  local-le = omega (arith, days-le (t .year) (t .month) (t .day) (b .date))
+  local-le = omega (arith, days-le (b .date))
 
   -- ---- the offset
   abbrev ahead : ℕ
