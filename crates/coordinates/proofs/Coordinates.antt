@@ -21,7 +21,7 @@ use Rattle.coordinates.specs.Place.{signLength, unsigned, isCoordinate, 
 use Rattle.coordinates.specs.declared.Decimal.the-variants as decimal
 use Rattle.coordinates.specs.declared.Coordinate.the-variants.{Value, Fault}
 use Rattle.coordinates.proofs.Leading.{leads-in}
-use Rattle.coordinates.proofs.Decimals.{Written, written, not-written}
+use Rattle.coordinates.proofs.Decimals.{DecimalRead, decimal-read, no-decimal-read}
 
 -- ---- the sign
 
@@ -70,11 +70,11 @@ module _ (s : List ℕ) (at limit start : ℕ) (b : start ≡ at + signLength (d
 
   pub no-decimal : decimalAt 3 7 start (drop start s) ≡ decimal.Fault → Fault ≡ coordinateAt limit at (drop at s)
   unfolding coordinateAt
-  no-decimal q = rw (rw rest at (not-written 3 7 start (drop start s) q))
+  no-decimal q = rw (rw rest at (no-decimal-read 3 7 start (drop start s) q))
 
   module _ (m e : ℕ) (q : decimalAt 3 7 start (drop start s) ≡ decimal.Value m e) where
-    given : Written 3 7 start (unsigned (drop at s)) m e
-    given = rw rest at (written 3 7 start (drop start s) m e q)
+    given : DecimalRead 3 7 start (unsigned (drop at s)) m e
+    given = rw rest at (decimal-read 3 7 start (drop start s) m e q)
 
     pub beyond : limit < m → Fault ≡ coordinateAt limit at (drop at s)
     unfolding coordinateAt

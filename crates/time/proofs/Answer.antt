@@ -13,7 +13,7 @@ use Rattle.text.proofs.Laws.{spaces-le, all-spaces, not-all-spaces}
 use Rattle.time.specs.declared.Time.{Time}
 use Rattle.time.specs.declared.Time.the-variants.{Fault}
 use Rattle.time.specs.Time.{form, hasForm, stampTime, timeOf}
-use Rattle.time.proofs.Written.{form-length}
+use Rattle.time.proofs.Forms.{form-length}
 
 -- fewer bytes than the form has
 stamp-short : (l : List ℕ) → length l < 25 → Fault ≡ stampTime l

@@ -4,7 +4,7 @@ use Prim.Native.Nat.{_-_}
 use native.Mathlib.Omega.{arith}
 use borrow.Author.Needs.{needs}
 use lib.ListN.{length, drop}
-use Rattle.time.proofs.Written.{form-on, form-stop, form-end}
+use Rattle.time.proofs.Forms.{form-on, form-stop, form-end}
 use Rattle.time.specs.Time.{hasForm}
 use Rattle.time.proofs.form.has_form.Statement.{statement}
 use Rattle.time.proofs.form.has_form.Tie as tie

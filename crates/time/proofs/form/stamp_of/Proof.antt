@@ -1,7 +1,7 @@
 -- Each field is what `two_digits` gave; the year is made of two of them.
 use native.Mathlib.Omega.{arith}
 use borrow.Author.Needs.{needs}
-use Rattle.time.proofs.Written.{stamp-is}
+use Rattle.time.proofs.Forms.{stamp-is}
 use Rattle.time.proofs.form.stamp_of.Statement.{statement}
 use Rattle.time.proofs.form.stamp_of.Tie as tie
 
