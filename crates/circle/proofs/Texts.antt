@@ -72,7 +72,7 @@ circle-more l e =
     (token-or-end (after l)))
     (token-or-end l)
 
--- ---- the places of the two tokens: a and b, c and d are their starts and ends
+-- ---- the offsets of the two tokens: a and b, c and d are their starts and ends
 module _ (s : List ℕ) (a b c d : ℕ) (ea : a ≡ 0 + spaces (drop 0 s)) (eb : b ≡ a + tokenLength (drop a s)) (ec : c ≡ b + spaces (drop b s)) (ed : d ≡ c + tokenLength (drop c s)) where
   from-a : drop a s ≡ dropSpace s
   from-a = ap (λ (i : ℕ). drop i s) (ea ∙ zero-add (spaces s))

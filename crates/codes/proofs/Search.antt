@@ -29,7 +29,7 @@ module _ (all : List ℕ) where
   cuts-at (suc n) i zero h = ap (cut all) (omega arith)
   cuts-at (suc n) i (suc j) h = cuts-at n (i + 1) j (omega arith) ∙ ap (cut all) (omega arith)
 
-  -- ---- the number of a text among the codes from the place i on, counted from the place first
+  -- ---- the number of a text among the codes from index i on, counted from index first
 
   module _ (t : List ℕ) (first i end : ℕ) where
     pub found-here : i < end → eql t (cut all i) ≡ true → find (i - first + 1) t (cuts all (end - i) i) ≡ i - first + 1

@@ -88,7 +88,7 @@ module _ (s : List ℕ) (at limit start : ℕ) (b : start ≡ at + signLength (d
 
 -- ---- what a coordinate that was read says
 
--- z is the coordinate at place i, and e the place after it
+-- z is the coordinate at offset i, and e the offset after it
 pub record Measured (limit i : ℕ) (l : List ℕ) (z : ℤ) (e : ℕ) : Type 0 where
   pub is : isCoordinate limit l ≡ true
   pub value : z ≡ coordinateValue l
@@ -103,17 +103,17 @@ module _ (limit i : ℕ) (l : List ℕ) where
   unfolding coordinateAt
   not-measured q = second-arm _ _ _ (isCoordinate limit l) q (λ p. fault≢value _ _ (sym p))
 
-  -- the same coordinate, in a text that stands at place j
-  pub from-place : (j : ℕ) (z : ℤ) (e : ℕ) → coordinateAt limit i l ≡ Value z e → coordinateAt limit j l ≡ Value z (j + (e - i))
+  -- the same coordinate, in a text that stands at offset j
+  pub coordinate-moved : (j : ℕ) (z : ℤ) (e : ℕ) → coordinateAt limit i l ≡ Value z e → coordinateAt limit j l ≡ Value z (j + (e - i))
   unfolding coordinateAt
-  from-place j z e q =
+  coordinate-moved j z e q =
       let m = measured z e q in
       let k : j + (signLength l + decimalLength (unsigned l)) ≡ j + (e - i) = omega (arith, m .end) in
       rw (m .is, m .value, k)
 
-  pub no-place : (j : ℕ) → coordinateAt limit i l ≡ Fault → coordinateAt limit j l ≡ Fault
+  pub fault-moved : (j : ℕ) → coordinateAt limit i l ≡ Fault → coordinateAt limit j l ≡ Fault
   unfolding coordinateAt
-  no-place j q = rw (not-measured q)
+  fault-moved j q = rw (not-measured q)
 
   pub coordinate-start : (z : ℤ) (e : ℕ) → coordinateAt limit i l ≡ Value z e → i ≤ e
   coordinate-start z e q = omega (arith, measured z e q .end)

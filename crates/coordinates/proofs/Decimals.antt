@@ -76,7 +76,7 @@ module _ (s : List ℕ) (at w f : ℕ) where
 
 -- ---- what a decimal that was read says
 
--- v is the number that the decimal at place i writes, in units of its f-th place, and e the place after it
+-- v is the number that the decimal at offset i writes, in units of its f-th decimal place, and e the offset after it
 pub record DecimalRead (w f i : ℕ) (l : List ℕ) (v e : ℕ) : Type 0 where
   pub is : isDecimal w f l ≡ true
   pub value : v ≡ scaled f l

@@ -1,4 +1,4 @@
--- A run of digits: one step of it at a place of a text, for the loop that reads it, and what a run that was read says of the text.
+-- A run of digits: one step of it at an offset of a text, for the loop that reads it, and what a run that was read says of the text.
 use mathlib.Core.Path.{_≡_, refl, sym, _∙_}
 use mathlib.Core.Bool.{true, false, cond}
 use mathlib.Core.List.{List, [], _∷_}
@@ -22,7 +22,7 @@ use Rattle.coordinates.proofs.Tens.{tens-le}
 
 -- ---- one step
 
--- the digits that lead the text l, which stands at place i, if they are at most `left`, after digits that wrote v
+-- the digits that lead the text l, which stands at offset i, if they are at most `left`, after digits that wrote v
 unfoldable pub runFrom : ℕ → ℕ → ℕ → List ℕ → Run
 runFrom left i v l = cond (leb (digits l) left) (Value (numberFrom v (take (digits l) l)) (i + digits l)) TooLong
 
@@ -107,7 +107,7 @@ number-lt l = omega (arith, number-from-lt 0 l)
 
 -- ---- what a run that was read says
 
--- v is the number that the digits at place i write, at most `most` of them, and e the place after them
+-- v is the number that the digits at offset i write, at most `most` of them, and e the offset after them
 pub record Ran (most i : ℕ) (l : List ℕ) (v e : ℕ) : Type 0 where
   pub few : digits l ≤ most
   pub value : v ≡ number (take (digits l) l)

@@ -23,7 +23,7 @@ use Rattle.coordinates.specs.declared.Coordinate.the-variants as coordin
 use Rattle.coordinates.specs.declared.Pair.the-variants as pair
 use Rattle.coordinates.specs.declared.LeadingPair.the-variants as leading
 use Rattle.coordinates.proofs.Runs.{digit-ge}
-use Rattle.coordinates.proofs.Coordinates.{measured, from-place}
+use Rattle.coordinates.proofs.Coordinates.{measured, coordinate-moved}
 
 -- ---- the token that leads a text
 
@@ -188,7 +188,7 @@ module _ (l : List ℕ) where
       far y x k n q t d =
           omega (
             arith,
-            coordinate-within (drop (k + 1) l) longitudeLimit x (0 + (n - (k + 1))) (from-place longitudeLimit (k + 1) (drop (k + 1) l) 0 x n d),
+            coordinate-within (drop (k + 1) l) longitudeLimit x (0 + (n - (k + 1))) (coordinate-moved longitudeLimit (k + 1) (drop (k + 1) l) 0 x n d),
             run-rest notSpace (k + 1) l (comma-within y k q t),
           )
 

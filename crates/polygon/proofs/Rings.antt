@@ -134,7 +134,7 @@ module _ (p : Place) (l : List ℕ) where
       let s : 1 + length ts ≡ suc (length ts) = omega arith in
       holds-all false p q q 1 none ts ∙ rw (ring-none p q none (placesOf ts), s, k .1 .0 .first, k .1 .1)
 
-  -- a text that starts with no pair: the answer is one of the two other variants, by their places in the declaration
+  -- a text that starts with no pair: the answer is one of the two other variants, by their indices in the declaration
   none-whole : (n : Next) → OneOf (1 ∷ 2 ∷ []) (tagOf the-type n) → n ≡ nextOf l 0 → isPolygon l ≡ false
   unfolding isPolygon allPairs placesOf isClosed
   none-whole (next.Pair p e) k h = absurd (⊎-elim (λ f. omega arith) (λ f. omega arith) k)

@@ -28,7 +28,7 @@ use Rattle.polygon.specs.Next.{startOf, endOf, tokenAt, endingAt, nextOf
 
 -- ---- the reading
 
--- whether a token goes on at a place, by the byte there
+-- whether a token goes on at an offset, by the byte there
 module _ (l : List ℕ) (i : ℕ) where
   pub on-at : {t : Bool} → i < length l → t ≡ isSpace (getD l i 0) → not t ≡ onToken (drop i l)
   unfolding onToken

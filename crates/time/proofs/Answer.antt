@@ -20,7 +20,7 @@ stamp-short : (l : List ℕ) → length l < 25 → Fault ≡ stampTime l
 unfolding stampTime
 stamp-short l h = by-test (hasForm form l) (λ e. absurd (omega (arith, form-length form l e))) (λ e. rw e)
 
--- ---- the white space around them, from the place i where the time starts
+-- ---- the white space around them; the time starts at byte i
 
 module _ (l : List ℕ) (i : ℕ) (e : i ≡ 0 + spaces l) where
   pub start-le : i ≤ length l

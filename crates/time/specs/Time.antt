@@ -35,7 +35,7 @@ hasForm [] (b ∷ l) = false
 hasForm (f ∷ fs) [] = false
 hasForm (f ∷ fs) (b ∷ l) = isFormByte f b && hasForm fs l
 
--- the number that the n digits from place i on write
+-- the number that the n digits from byte i on write
 abbrev pub digitsAt : ℕ → ℕ → List ℕ → ℕ
 digitsAt i n l = number (take n (drop i l))
 

@@ -1,4 +1,4 @@
--- `after_sign` meets its contract: where a sign stands, the place is within the text, so that the place after it fits.
+-- `after_sign` meets its contract: where a sign stands, the offset is within the text, so that the offset after it fits.
 use native.Mathlib.Omega.{arith}
 use borrow.Author.Needs.{needs}
 use Rattle.coordinates.proofs.Coordinates.{sign-in, sign-some, sign-none}

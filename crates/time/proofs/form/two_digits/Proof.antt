@@ -1,4 +1,4 @@
--- Both places lie within the text, and a byte's value is at most 207.
+-- Both bytes lie within the text, and a byte's value is at most 207.
 use native.Mathlib.Omega.{arith}
 use borrow.Author.Needs.{needs}
 use Rattle.time.proofs.Forms.{two-digits}
