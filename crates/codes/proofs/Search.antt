@@ -57,8 +57,12 @@ module _ (all : List ℕ) where
 
     pub text-past : (k : ℕ) → before (l + 1) - before l < k → [] ≡ getD ([] ∷ listIn all l) k []
     unfolding listIn
-    text-past k h = let n = cuts-length (before (l + 1) - before l) (before l) in sym (List·getD-eq-default ([] ∷ listIn all l) [] {n = k} (rw (listIn, n) (omega arith)))
+    text-past k h =
+        let n = cuts-length (before (l + 1) - before l) (before l) in
+        sym (List·getD-eq-default ([] ∷ listIn all l) [] {n = k} (rw (listIn, n) (omega arith)))
 
     pub text-at : (k : ℕ) → 1 ≤ k → k ≤ before (l + 1) - before l → cut all (before l + (k - 1)) ≡ getD ([] ∷ listIn all l) k []
     unfolding listIn
-    text-at k a b = let z : k ≡ suc (k - 1) = omega arith in sym (ap (λ (j : ℕ). getD ([] ∷ listIn all l) j []) z ∙ cuts-at (before (l + 1) - before l) (before l) (k - 1) (omega arith))
+    text-at k a b =
+        let z : k ≡ suc (k - 1) = omega arith in
+        sym (ap (λ (j : ℕ). getD ([] ∷ listIn all l) j []) z ∙ cuts-at (before (l + 1) - before l) (before l) (k - 1) (omega arith))

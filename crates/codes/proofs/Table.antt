@@ -1,4 +1,4 @@
--- The table of codes in small letters holds the lists: tested once over the 8 lists.
+-- The lists by how many codes stand before them, tested once over the 8 lists; and what holds of any table that spells them in small letters.
 use mathlib.Core.Path.{_≡_, refl, sym, ap, _∙_}
 use mathlib.Core.Bool.{Bool, true, false, _&&_, false≢true}
 use mathlib.Core.List.{List, [], _∷_, map}
@@ -61,9 +61,9 @@ module _ (l : ℕ) (h : l < 8) where
 
 -- ---- past the last list there is none
 
--- a number that is not below n, nor n
-pub one-more : {l n : ℕ} → n ≤ l → (l ≡ n → ⊥) → n + 1 ≤ l
-one-more h e = omega arith
+-- a number that is not below n, nor one of the next four
+pub four-more : {l n : ℕ} → n ≤ l → (l ≡ n → ⊥) → (l ≡ n + 1 → ⊥) → (l ≡ n + 2 → ⊥) → (l ≡ n + 3 → ⊥) → n + 4 ≤ l
+four-more h p q r s = omega arith
 
 module _ (l : ℕ) (h : 8 ≤ l) where
   pub no-list : codes l ≡ []

@@ -80,11 +80,14 @@ module _ (s : List ℕ) (at limit start : ℕ) (b : start ≡ at + signLength (d
     unfolding coordinateAt
     beyond h = rw (given .is, lt-leb (scaled 7 (unsigned (drop at s))) limit (rw (given .value) at h))
 
-    pub within-limit : m ≤ limit → (minus : Bool) → minus ≡ leads (code "-") (drop at s) → (z : ℤ) → z ≡ signed minus m → mag z < 2_147_483_648 → Value (read w32 z) e ≡ coordinateAt limit at (drop at s)
+    pub within-limit :
+        m ≤ limit → (minus : Bool) → minus ≡ leads (code "-") (drop at s) → (z : ℤ) → z ≡ signed minus m → mag z < 2_147_483_648
+        → Value (read w32 z) e ≡ coordinateAt limit at (drop at s)
     unfolding coordinateAt
     within-limit h minus p z v g =
         let x : e ≡ at + (signLength (drop at s) + decimalLength (unsigned (drop at s))) = omega (arith, given .end) in
-        rw (given .is, le-leb (scaled 7 (unsigned (drop at s))) limit (rw (given .value) at h), read-given w32 z g, v, signed-is minus m, p, given .value, x)
+        rw (given .is, le-leb (scaled 7 (unsigned (drop at s))) limit (rw (given .value) at h), read-given w32 z g, v, signed-is minus m)
+        (rw (p, given .value, x))
 
 -- ---- what a coordinate that was read says
 

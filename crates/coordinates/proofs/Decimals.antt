@@ -72,7 +72,8 @@ module _ (s : List ℕ) (at w f : ℕ) where
           with-part m b g =
               let k : 1 ≤ digits (drop (p + 1) s) = pos-of-ne-zero (λ z. m (omega (arith, parts .end))) in
               let x : q ≡ at + (digits (drop at s) + (1 + digits (drop (p + 1) s))) = omega (arith, found .end, parts .end) in
-              rw (h, g, ran-count f (p + 1) (drop (p + 1) s) v q r₂, found .value, parts .value, x, fits, pointed, part, le-leb 1 (digits (drop (p + 1) s)) k, le-leb (digits (drop (p + 1) s)) f (parts .few))
+              rw (h, g, ran-count f (p + 1) (drop (p + 1) s) v q r₂, found .value, parts .value, x, fits, pointed, part)
+              (rw (le-leb 1 (digits (drop (p + 1) s)) k, le-leb (digits (drop (p + 1) s)) f (parts .few)))
 
 -- ---- what a decimal that was read says
 

@@ -46,13 +46,16 @@ module _ (s : List ℕ) (i : ℕ) where
     no-comma h = rw (latitude, comma, h)
 
     module _ (h : leads (code ",") (drop e s) ≡ true) where
-      pub no-longitude : coordinateAt longitudeLimit (e + 1) (drop (e + 1) s) ≡ coordinate.Fault → leading.Fault ≡ standingAt i (leadingPair (drop i s))
+      pub no-longitude :
+          coordinateAt longitudeLimit (e + 1) (drop (e + 1) s) ≡ coordinate.Fault → leading.Fault ≡ standingAt i (leadingPair (drop i s))
       no-longitude d = rw (latitude, comma, h, rest, fault-moved longitudeLimit (e + 1) (drop (e + 1) s) (e - i + 1) d)
 
-      pub both : (x : ℤ) (k : ℕ) → coordinateAt longitudeLimit (e + 1) (drop (e + 1) s) ≡ coordinate.Value x k → mag y < 2_147_483_648 → mag x < 2_147_483_648 → leading.At (record { lat = read w32 y; lon = read w32 x }) k ≡ standingAt i (leadingPair (drop i s))
+      pub both :
+          (x : ℤ) (k : ℕ) → coordinateAt longitudeLimit (e + 1) (drop (e + 1) s) ≡ coordinate.Value x k → mag y < 2_147_483_648
+          → mag x < 2_147_483_648 → leading.At (record { lat = read w32 y; lon = read w32 x }) k ≡ standingAt i (leadingPair (drop i s))
       both x k d gy gx =
           let n : k ≡ i + (e - i + 1 + (k - (e + 1))) = omega (arith, start, coordinate-start longitudeLimit (e + 1) (drop (e + 1) s) x k d) in
-          rw (latitude, comma, h, rest, coordinate-moved longitudeLimit (e + 1) (drop (e + 1) s) (e - i + 1) x k d, read-given w32 y gy, read-given w32 x gx, ← n)
+          rw (latitude, comma, h, rest, coordinate-moved longitudeLimit (e + 1) (drop (e + 1) s) (e - i + 1) x k d, ← n) (simp (read-given w32))
 
 -- ---- a pair, from what stands at offset i
 

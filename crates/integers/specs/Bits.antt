@@ -1,4 +1,5 @@
--- A signed local holds bits: `toZ w` reads the integer that they are in two's complement, `ofZ w` makes them. Laws of operations over integers that are read back from their bits, in the form in which the checker asks for them.
+-- A signed local holds bits: `toZ w` reads the integer that they are in two's complement, `ofZ w` makes them. Laws of operations over integers that
+-- are read back from their bits, in the form in which the checker asks for them.
 use mathlib.Core.Path.{_≡_, _∙_}
 use mathlib.Core.Bool.{true, false}
 use Prim.Native.Nat.{ℕ, _^_, _≤_, _<_}

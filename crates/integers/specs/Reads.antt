@@ -1,4 +1,5 @@
--- Operations on signed numbers of 64 bits, over numbers that their bits are known to stand for: each fits where its result is small enough, and its bits stand for the result.
+-- Operations on signed numbers of 64 bits, over numbers that their bits are known to stand for: each fits where its result is small enough, and its
+-- bits stand for the result.
 use mathlib.Core.Path.{_≡_, ap, ap₂, _∙_}
 use Prim.Native.Nat.{ℕ, _≤_, _<_}
 use native.Mathlib.Omega.{arith}

@@ -31,7 +31,9 @@ module _ (l : List ℕ) (i : ℕ) (e : i ≡ 0 + spaces l) where
   time-at = let p : i ≡ spaces l = omega arith in rw (p, drop-drop 25 (spaces l) l)
 
   pub time-short : length l - i < 25 → Fault ≡ timeOf l
-  time-short h = rw (time-at, drop-of-length-le l {i = i + 25} (omega arith), take-all 25 (drop i l) (omega (arith, length-drop i l))) (stamp-short (drop i l) (omega (arith, length-drop i l)))
+  time-short h =
+      rw (time-at, drop-of-length-le l {i = i + 25} (omega arith), take-all 25 (drop i l) (omega (arith, length-drop i l)))
+      (stamp-short (drop i l) (omega (arith, length-drop i l)))
 
   module _ (j : ℕ) (h : i + 25 ≤ length l) (f : j ≡ i + 25 + spaces (drop (i + 25) l)) where
     pub time-stray : (j ≡ length l → ⊥) → Fault ≡ timeOf l

@@ -18,7 +18,9 @@ use Rattle.time.specs.Limits.{isTabled, Tabled}
 
 -- a quotient grows by one at each multiple of the divisor
 up-to : (d n : ℕ) → 0 < d → 0 < n → n ≤ d → n / d ≡ boolByte (eqb (n % d) 0)
-up-to d n h g k = ⊎-elim (λ (e : n ≡ d). rw (e, div-self h, mod-self d)) (λ (l : n < d). rw (div-eq-of-lt l, mod-eq-of-lt l, ne-eqb n 0 (λ e. omega arith))) (eq-or-lt-of-le k)
+up-to d n h g k =
+    ⊎-elim (λ (e : n ≡ d). rw (e, div-self h, mod-self d)) (λ (l : n < d). rw (div-eq-of-lt l, mod-eq-of-lt l, ne-eqb n 0 (λ e. omega arith)))
+    (eq-or-lt-of-le k)
 
 quotient : (d k : ℕ) → 0 < d → suc k / d ≡ k / d + boolByte (eqb (suc k % d) 0)
 quotient d k h =
@@ -27,7 +29,8 @@ quotient d k h =
     (ap (λ (n : ℕ). k / d + n) (up-to d (suc (k % d)) h (omega arith) (mod-lt k h)))
 
 -- the leap year's rule as a sum, where c goes with b and b with a
-leap-sum : (a b c : Bool) → (c ≡ true → b ≡ true) → (b ≡ true → a ≡ true) → cond (a && not b || c) 366 365 + boolByte b ≡ 365 + boolByte a + boolByte c
+leap-sum :
+    (a b c : Bool) → (c ≡ true → b ≡ true) → (b ≡ true → a ≡ true) → cond (a && not b || c) 366 365 + boolByte b ≡ 365 + boolByte a + boolByte c
 leap-sum true true true h g = refl
 leap-sum true true false h g = refl
 leap-sum true false true h g = absurd (false≢true (h refl))
@@ -92,4 +95,5 @@ module _ {before : List ℕ} {m : ℕ} (p : Tabled before m) (y : ℕ) (b : Bool
 
   -- the table, with the leap day from March on
   pub months-table : getD before m 0 + boolByte (ltb 2 m && b) ≡ daysOfMonths y (m - 1)
-  months-table = by-test (isLeap y) (λ k. like 4 k (and-right (isTabled before 1 m) _ tabled)) (λ k. like 1 k (and-left _ (isTabled before 4 m) tabled))
+  months-table =
+      by-test (isLeap y) (λ k. like 4 k (and-right (isTabled before 1 m) _ tabled)) (λ k. like 1 k (and-left _ (isTabled before 4 m) tabled))

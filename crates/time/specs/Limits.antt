@@ -1,4 +1,4 @@
--- What the limits say of a date's and a stamp's numbers, in the form in which the code's arithmetic asks for it; and what the table of months has to say.
+-- What the limits say of a date's and a stamp's numbers, in the form in which the code's arithmetic asks for it; and what the table of months says.
 use mathlib.Core.Bool.{Bool, _&&_}
 use mathlib.Core.List.{List}
 use Prim.Native.Nat.{ℕ, _+_, _*_, _≤_, _<_}

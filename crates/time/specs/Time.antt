@@ -1,7 +1,7 @@
 -- CAP times (document 01, "The document", second paragraph) and the instants they name.
 use mathlib.Core.Bool.{Bool, true, false, cond, not, _&&_, _||_}
 use mathlib.Core.List.{List, [], _∷_}
-use Prim.Native.Nat.{ℕ, _+_, _-_, _*_}
+use Prim.Native.Nat.{ℕ, _+_, _*_}
 use Prim.Native.Char.{code}
 use lib.Dec.{eqb, leb}
 use lib.IntN.{ℤ, pos, negℤ, _-ℤ_}

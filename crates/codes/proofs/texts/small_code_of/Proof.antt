@@ -18,4 +18,5 @@ returns-2 c = let a = c .before .before .before .before .args in small-found _ (
 pub small-code-of-spec : {M : Type 1} → statement M
 small-code-of-spec =
     tie.close
-    (tie.spec (λ c. no-small-code _ (c .if1 .taken) _) (λ c. search needs) (λ c. search needs) (λ c. search needs) (λ c. search needs) (λ c. search needs) (λ c. search needs) find-in-requires returns-2)
+    (tie.spec (λ c. no-small-code _ (c .if1 .taken) _) (λ c. search needs) (λ c. search needs) (λ c. search needs) (λ c. search needs)
+    (λ c. search needs) (λ c. search needs) find-in-requires returns-2)

@@ -6,7 +6,9 @@ use Rattle.coordinates.proofs.scan.after_sign.Statement.{statement}
 use Rattle.coordinates.proofs.scan.after_sign.Tie as tie
 
 add-result : tie.Need-add-result
-add-result c = omega (arith, sign-in (c .before .before .before .before .args .s .now) (c .before .before .before .before .args .at) _ _ (c .before .before .leads .ensures) (c .before .leads2 .ensures) (c .if1 .taken))
+add-result c =
+    let g = c .before .before .before .before .args in
+    omega (arith, sign-in (g .s .now) (g .at) _ _ (c .before .before .leads .ensures) (c .before .leads2 .ensures) (c .if1 .taken))
 
 returns : tie.Need-returns
 returns c = sign-some _ _ _ _ (c .before .before .leads .ensures) (c .before .leads2 .ensures) (c .if1 .taken)

@@ -1,4 +1,4 @@
--- `number_at` meets its contract. The loop's invariant: `n` is the number of the first `i` bytes, and below 256 ^ i. The measure is how many bytes are left.
+-- `number_at` meets its contract. The loop's invariant: `n` is the number of the first `i` bytes, and below 256 ^ i. The measure: how many are left.
 use mathlib.Core.Path.{_≡_, sym, ap, _∙_}
 use Prim.Native.Nat.{ℕ, _+_, _-_, _*_, _^_, _≤_, _<_}
 use native.Mathlib.Omega.{arith}

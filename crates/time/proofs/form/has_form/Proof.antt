@@ -16,10 +16,14 @@ abbrev μ-loop : tie.MeasureT-loop
 μ-loop form text i₀ i = length form - i
 
 loop-again : tie.Need-loop-again Inv-loop μ-loop
-loop-again c = sym (form-on _ _ _ (c .before .before .before .before .loop-test .taken) (omega arith) (sym (c .before .is-form-byte .ensures) ∙ c .if1 .taken)) ∙ c .before .before .before .before .before .loop .inv
+loop-again c =
+    sym (form-on _ _ _ (c .before .before .before .before .loop-test .taken) (omega arith) (sym (c .before .is-form-byte .ensures) ∙ c .if1 .taken))
+    ∙ c .before .before .before .before .before .loop .inv
 
 returns : tie.Need-returns Inv-loop μ-loop
-returns c = sym (form-stop _ _ _ (c .before .before .before .before .loop-test .taken) (omega arith) (sym (c .before .is-form-byte .ensures) ∙ c .if1 .left)) ∙ c .before .before .before .before .before .loop .inv
+returns c =
+    sym (form-stop _ _ _ (c .before .before .before .before .loop-test .taken) (omega arith) (sym (c .before .is-form-byte .ensures) ∙ c .if1 .left))
+    ∙ c .before .before .before .before .before .loop .inv
 
 returns-2 : tie.Need-returns-2 Inv-loop μ-loop
 returns-2 c = sym (form-end _ _ _ (c .loop-test .left) (omega arith)) ∙ c .before .loop .inv
