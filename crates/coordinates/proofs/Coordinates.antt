@@ -14,8 +14,8 @@ use mir.Syntax.{w32}
 use mir.Val.{SFits, toZ, ofZ}
 use mir.Facts.{toZ-pos, toZ-ofZ}
 use Rattle.text.specs.Logic.{by-test, first-arm, second-arm, clash}
-use Rattle.integers.specs.Magnitude.{abs-neg, mag-abs, signed}
-use Rattle.integers.specs.Bits.{read, read-given}
+use Rattle.integers.specs.Magnitude.{abs-neg, signed}
+use Rattle.integers.specs.Bits.{read, read-given, fits-abs}
 use Rattle.coordinates.specs.Decimal.{leads, scaled, decimalLength, decimalAt}
 use Rattle.coordinates.specs.Place.{signLength, unsigned, isCoordinate, coordinateValue, coordinateAt}
 use Rattle.coordinates.specs.declared.Decimal.the-variants as decimal
@@ -47,7 +47,7 @@ module _ (m : ℕ) (h : m ≤ 1_800_000_000) where
   minus = rw plain (+ℤ-idl (negℤ (pos m)))
 
   pub minus-fits : SFits w32 (pos 0 -ℤ toZ w32 m)
-  minus-fits = rw minus (record { sfits = mag-abs (negℤ (pos m)) 2_147_483_648 (rw abs-neg (omega arith)) })
+  minus-fits = rw minus (fits-abs (rw abs-neg (omega arith)))
 
   pub minus-is : (b : Bool) → b ≡ true → toZ w32 (ofZ w32 (pos 0 -ℤ toZ w32 m)) ≡ signed b m
   minus-is b e = rw e (toZ-ofZ minus-fits ∙ minus)

@@ -41,14 +41,14 @@ module _ {x : ℕ} {a : ℤ} (p : Reads x a) where
   neg-is = +ℤ-idl (negℤ (toZ w64 x)) ∙ ap negℤ (p .is)
 
   pub neg-fits : natAbs a ≤ most → SFits w64 (pos 0 -ℤ toZ w64 x)
-  neg-fits h = rw neg-is (fits-abs (negℤ a) (omega (arith, abs-neg a)))
+  neg-fits h = rw neg-is (fits-abs (omega (arith, abs-neg a)))
 
   pub neg-reads : natAbs a ≤ most → Reads (ofZ w64 (pos 0 -ℤ toZ w64 x)) (negℤ a)
-  neg-reads h = reads-fit neg-is (fits-abs (negℤ a) (omega (arith, abs-neg a)))
+  neg-reads h = reads-fit neg-is (fits-abs (omega (arith, abs-neg a)))
 
 module _ {x y : ℕ} {a b : ℤ} (p : Reads x a) (q : Reads y b) where
   pub sub-fits : natAbs (a -ℤ b) ≤ most → SFits w64 (toZ w64 x -ℤ toZ w64 y)
-  sub-fits h = rw (p .is, q .is) (fits-abs (a -ℤ b) h)
+  sub-fits h = rw (p .is, q .is) (fits-abs (omega arith))
 
   pub sub-reads : natAbs (a -ℤ b) ≤ most → Reads (ofZ w64 (toZ w64 x -ℤ toZ w64 y)) (a -ℤ b)
-  sub-reads h = reads-fit (ap₂ _-ℤ_ (p .is) (q .is)) (fits-abs (a -ℤ b) h)
+  sub-reads h = reads-fit (ap₂ _-ℤ_ (p .is) (q .is)) (fits-abs (omega arith))
