@@ -1,4 +1,4 @@
--- The way from a centre to a place: cosines, squares, and the answer by cases. A signed value that a callee was passed is read back from its bits: `read w32`.
+-- The way from a centre to a place: cosines, squares, and the answer by cases. A signed value that a callee was passed is read back: `read w32`.
 use mathlib.Core.Path.{_≡_, sym, ap, _∙_}
 use mathlib.Core.Bool.{Bool, false, cond}
 use Prim.Native.Nat.{ℕ, _+_, _*_, _/_, _≤_, _<_}
@@ -13,7 +13,7 @@ use mir.Val.{Fits, SFits}
 use mir.Facts.{toZ-ofZ}
 use Rattle.coordinates.specs.declared.Place.{Place}
 use Rattle.coordinates.specs.declared.Inclusion.the-variants.{Inside, Outside, Fault}
-use Rattle.integers.specs.Bits.{read, read-given-32, apart}
+use Rattle.integers.specs.Bits.{read, read-given, apart}
 use Rattle.integers.specs.Magnitude.{abs-sub-zero}
 use Rattle.circle.specs.Cosine.{cosines}
 use Rattle.circle.specs.Circle.{cosineAt, unitsOf, withinSquares, inCircle, aroundHolds}
@@ -25,7 +25,9 @@ pub cosine-none : (i : ℕ) → 900 < i → 0 ≡ getD cosines i 0
 cosine-none i h = let g : 901 ≤ i = omega arith in sym (List·getD-eq-default cosines 0 {n = i} (rw entries g))
 
 -- r is the cosine by the tenths d of a latitude
-pub cosine-is : (lat : ℤ) (d r : ℕ) → SFits w32 lat → d ≡ natAbs (read w32 lat -ℤ pos 0) → r ≡ getD cosines (d / 1_000_000) 0 → (r ≡ cosineAt lat) × (r ≤ 1_000_000)
+pub cosine-is :
+    (lat : ℤ) (d r : ℕ) → SFits w32 lat → d ≡ natAbs (read w32 lat -ℤ pos 0) → r ≡ getD cosines (d / 1_000_000) 0
+    → (r ≡ cosineAt lat) × (r ≤ 1_000_000)
 cosine-is lat d r f e g =
     let e′ : d ≡ natAbs lat = e ∙ rw (toZ-ofZ f) (abs-sub-zero lat) in
     (g ∙ rw e′, rw g (entry-le (d / 1_000_000)))
@@ -58,7 +60,8 @@ product-fits a k h g = let e : a * k ≤ 4_294_967_295 * 1_000_000 = mul-le-mul 
 
 module _ (clat clon lat lon : ℤ) (u : ℕ) (f₁ : SFits w32 clat) (f₂ : SFits w32 clon) (f₃ : SFits w32 lat) (f₄ : SFits w32 lon) where
   pub near-is :
-      (d k x y : ℕ) (r : Bool) → d ≡ natAbs (read w32 lon -ℤ read w32 clon) → k ≡ cosineAt (read w32 clat) → x ≡ d * k / 1_000_000 → y ≡ natAbs (read w32 lat -ℤ read w32 clat) → r ≡ withinSquares x y u
+      (d k x y : ℕ) (r : Bool) → d ≡ natAbs (read w32 lon -ℤ read w32 clon) → k ≡ cosineAt (read w32 clat) → x ≡ d * k / 1_000_000
+      → y ≡ natAbs (read w32 lat -ℤ read w32 clat) → r ≡ withinSquares x y u
       → r ≡ withinSquares (natAbs (lon -ℤ clon) * cosineAt clat / 1_000_000) (natAbs (lat -ℤ clat)) u
   near-is d k x y r ed ek ex ey er =
       let ed′ = apart lon clon f₄ f₂ d ed in
@@ -73,10 +76,13 @@ module _ (c : Place) (metres : ℕ) (p : Place) where
   unfolding aroundHolds
   too-wide h = rw (lt-leb metres 20_000_000 h)
 
-  module _ (h : metres ≤ 20_000_000) (hcy : mag (c .lat) < 2_147_483_648) (hcx : mag (c .lon) < 2_147_483_648) (hpy : mag (p .lat) < 2_147_483_648) (hpx : mag (p .lon) < 2_147_483_648) (u : ℕ) (eu : u ≡ unitsOf metres) (r : Bool) (er : r ≡ withinSquares (natAbs (read w32 (p .lon) -ℤ read w32 (c .lon)) * cosineAt (read w32 (c .lat)) / 1_000_000) (natAbs (read w32 (p .lat) -ℤ read w32 (c .lat))) u) where
+  module _ (h : metres ≤ 20_000_000) (hcy : mag (c .lat) < 2_147_483_648) (hcx : mag (c .lon) < 2_147_483_648)
+      (hpy : mag (p .lat) < 2_147_483_648) (hpx : mag (p .lon) < 2_147_483_648) (u : ℕ) (eu : u ≡ unitsOf metres) (r : Bool)
+      (er : r ≡ withinSquares (natAbs (read w32 (p .lon) -ℤ read w32 (c .lon)) * cosineAt (read w32 (c .lat)) / 1_000_000)
+      (natAbs (read w32 (p .lat) -ℤ read w32 (c .lat))) u) where
     plain : r ≡ inCircle c metres p
     unfolding inCircle
-    plain = er ∙ rw (read-given-32 (c .lat) hcy, read-given-32 (c .lon) hcx, read-given-32 (p .lat) hpy, read-given-32 (p .lon) hpx, eu)
+    plain = er ∙ simp (read-given w32, eu)
 
     -- the answer, by whether the place is near
     pub is-side : aroundHolds c metres p ≡ cond r Inside Outside

@@ -1,4 +1,5 @@
--- What document 01 asks to be proved of the cosine table: its ends, that it falls strictly, and that the squares of entries i and 900 - i sum to within 1,414,215 of 10^12.
+-- What document 01 asks to be proved of the cosine table: its ends, that it falls strictly, and that the squares of entries i and 900 - i sum to
+-- within 1,414,215 of 10^12.
 -- Each is one test that is computed over the whole table, and a law that carries it to an entry.
 use mathlib.Core.Path.{_≡_, refl}
 use mathlib.Core.Bool.{Bool, _&&_}
@@ -65,4 +66,6 @@ low = tt
 
 pub entry-le : (i : ℕ) → entry i ≤ 1_000_000
 unfolding lowAt
-entry-le i = by-test (ltb i 901) (λ e. leb-true _ _ (below-at 901 lowAt low i (ltb-true i 901 e))) (λ e. rw (List·getD-eq-default cosines 0 {n = i} (rw entries (ltb-false i 901 e))) (omega arith))
+entry-le i =
+    by-test (ltb i 901) (λ e. leb-true _ _ (below-at 901 lowAt low i (ltb-true i 901 e)))
+    (λ e. rw (List·getD-eq-default cosines 0 {n = i} (rw entries (ltb-false i 901 e))) (omega arith))

@@ -2,13 +2,13 @@
 use mathlib.Core.Path.{_≡_, refl, sym, ap, _∙_}
 use mathlib.Core.Bool.{true}
 use mathlib.Core.List.{List, [], _∷_}
-use mathlib.Core.Logic.{_⊎_, ⊎-elim}
+use mathlib.Core.Logic.{⊎-elim}
 use Prim.Native.Nat.{ℕ, _+_, _-_, _≤_}
 use native.Mathlib.Nat.{add-sub-cancel-left, zero-add}
 use native.Mathlib.Omega.{arith}
 use lib.ListN.{length, take, drop, length-drop, drop-of-length-le}
 use lib.Seq.{drop-drop}
-use Rattle.text.specs.Bytes.{spaces, dropSpace, digits}
+use Rattle.text.specs.Bytes.{spaces, dropSpace}
 use Rattle.text.specs.Tokens.{onToken, tokens, tokenLength}
 use Rattle.text.proofs.Laws.{tokens-space, tokens-next, token-or-end, spaces-within, token-within}
 use Rattle.coordinates.specs.declared.Pair.{Pair}
@@ -72,8 +72,9 @@ circle-more l e =
     (token-or-end (after l)))
     (token-or-end l)
 
--- ---- the places of the two tokens: a and b, c and d are their starts and ends
-module _ (s : List ℕ) (a b c d : ℕ) (ea : a ≡ 0 + spaces (drop 0 s)) (eb : b ≡ a + tokenLength (drop a s)) (ec : c ≡ b + spaces (drop b s)) (ed : d ≡ c + tokenLength (drop c s)) where
+-- ---- the offsets of the two tokens: a and b, c and d are their starts and ends
+module _ (s : List ℕ) (a b c d : ℕ) (ea : a ≡ 0 + spaces (drop 0 s)) (eb : b ≡ a + tokenLength (drop a s))
+    (ec : c ≡ b + spaces (drop b s)) (ed : d ≡ c + tokenLength (drop c s)) where
   from-a : drop a s ≡ dropSpace s
   from-a = ap (λ (i : ℕ). drop i s) (ea ∙ zero-add (spaces s))
 
@@ -122,7 +123,9 @@ module _ (s : List ℕ) (a b c d : ℕ) (ea : a ≡ 0 + spaces (drop 0 s)) (eb :
         reached : e ≤ length s → length s - e ≡ 0 → e ≡ length s
         reached h q = omega arith
 
-    pub text-two : e ≡ length s → (p : Pair) (r : Radius) (o : Circle) → p ≡ pairOf (take (b - a) (drop a s)) → r ≡ radiusOf (take (d - c) (drop c s)) → o ≡ circleFrom p r → o ≡ circleOf s
+    pub text-two :
+        e ≡ length s → (p : Pair) (r : Radius) (o : Circle) → p ≡ pairOf (take (b - a) (drop a s)) → r ≡ radiusOf (take (d - c) (drop c s))
+        → o ≡ circleFrom p r → o ≡ circleOf s
     text-two q p r o ep er eo =
         let z : dropSpace (after (after s)) ≡ [] = sym from-e ∙ drop-of-length-le s {i = e} (omega arith) in
         eo ∙ rw (ep, er, first-is, second-is) (sym (circle-two s z))

@@ -1,7 +1,7 @@
 -- Values and their numbers: a number that is none of a list gives the last value, and each value has a number of its list, which gives it back.
 use mathlib.Core.Path.{_≡_, refl, ap}
 use mathlib.Core.Bool.{true}
-use mathlib.Core.List.{List, [], _∷_}
+use mathlib.Core.List.{[], _∷_}
 use Prim.Native.Nat.{ℕ, zero, suc}
 use lib.ListN.{getD}
 use Rattle.codes.specs.declared.MessageType.{MessageType}
@@ -32,7 +32,8 @@ module _ {A : Type 0} {e : A} where
   none-of-four a b c d zero f g h i = refl
   none-of-four a b c d (suc zero) f g h i = absurd (f refl)
   none-of-four a b c d (suc (suc zero)) f g h i = absurd (g refl)
-  none-of-four a b c d (suc (suc (suc k))) f g h i = none-of-two c d (suc k) (λ e. h (ap (λ (j : ℕ). suc (suc j)) e)) (λ e. i (ap (λ (j : ℕ). suc (suc j)) e))
+  none-of-four a b c d (suc (suc (suc k))) f g h i =
+      none-of-two c d (suc k) (λ e. h (ap (λ (j : ℕ). suc (suc j)) e)) (λ e. i (ap (λ (j : ℕ). suc (suc j)) e))
 
 -- k is a number of the list l, and the value it gives is x
 pub record Numbers {A : Type 0} (l : ℕ) (at : ℕ → A) (x : A) (k : ℕ) : Type 0 where

@@ -29,7 +29,7 @@ module _ (all : List ℕ) where
   cuts-at (suc n) i zero h = ap (cut all) (omega arith)
   cuts-at (suc n) i (suc j) h = cuts-at n (i + 1) j (omega arith) ∙ ap (cut all) (omega arith)
 
-  -- ---- the number of a text among the codes from the place i on, counted from the place first
+  -- ---- the number of a text among the codes from index i on, counted from index first
 
   module _ (t : List ℕ) (first i end : ℕ) where
     pub found-here : i < end → eql t (cut all i) ≡ true → find (i - first + 1) t (cuts all (end - i) i) ≡ i - first + 1
@@ -57,8 +57,12 @@ module _ (all : List ℕ) where
 
     pub text-past : (k : ℕ) → before (l + 1) - before l < k → [] ≡ getD ([] ∷ listIn all l) k []
     unfolding listIn
-    text-past k h = let n = cuts-length (before (l + 1) - before l) (before l) in sym (List·getD-eq-default ([] ∷ listIn all l) [] {n = k} (rw (listIn, n) (omega arith)))
+    text-past k h =
+        let n = cuts-length (before (l + 1) - before l) (before l) in
+        sym (List·getD-eq-default ([] ∷ listIn all l) [] {n = k} (rw (listIn, n) (omega arith)))
 
     pub text-at : (k : ℕ) → 1 ≤ k → k ≤ before (l + 1) - before l → cut all (before l + (k - 1)) ≡ getD ([] ∷ listIn all l) k []
     unfolding listIn
-    text-at k a b = let z : k ≡ suc (k - 1) = omega arith in sym (ap (λ (j : ℕ). getD ([] ∷ listIn all l) j []) z ∙ cuts-at (before (l + 1) - before l) (before l) (k - 1) (omega arith))
+    text-at k a b =
+        let z : k ≡ suc (k - 1) = omega arith in
+        sym (ap (λ (j : ℕ). getD ([] ∷ listIn all l) j []) z ∙ cuts-at (before (l + 1) - before l) (before l) (k - 1) (omega arith))

@@ -1,31 +1,25 @@
--- The table of codes in small letters holds the lists: tested once over the 8 lists.
+-- The lists by how many codes stand before them, tested once over the 8 lists; and what holds of any table that spells them in small letters.
 use mathlib.Core.Path.{_≡_, refl, sym, ap, _∙_}
 use mathlib.Core.Bool.{Bool, true, false, _&&_, false≢true}
 use mathlib.Core.List.{List, [], _∷_, map}
 use Prim.Native.Nat.{ℕ, zero, suc, _+_, _-_, _≤_, _<_}
 use native.Mathlib.Omega.{arith}
-use lib.Dec.{eqb, leb, ltb}
+use lib.Dec.{T, eqb, leb, ltb}
 use lib.ListN.{length, getD, List·getD-eq-default}
 use borrow.Author.Tests.{leb-true, lt-leb, eqb-true, ltb-true, ltb-false}
-use Rattle.text.specs.Ascii.{ascii}
-use Rattle.text.specs.Logic.{by-test, and-left, and-right, below-at, eql, eql-true}
+use Rattle.text.specs.Logic.{by-test, and-left, and-right, below, below-at, eql, eql-true}
 use Rattle.text.specs.Search.{find}
 use Rattle.codes.specs.Lists.{lists, codes, codeOf, small, smallCodes, smallCodeOf, smallText}
-use Rattle.codes.specs.Table.{cut, cuts, befores, before, listIn}
-
--- SMALL
-unfoldable pub smallTable : List ℕ
-smallTable = ascii "actual     exercise   system     test       draft      alert      update     cancel     ack        error      public     restricted private    geo        met        safety     security   rescue     fire       health     env        transport  infra      cbrne      other      shelter    evacuate   prepare    execute    avoid      monitor    assess     allclear   none       immediate  expected   future     past       unknown    extreme    severe     moderate   minor      unknown    observed   likely     possible   unlikely   unknown    "
+use Rattle.codes.specs.Table.{cuts, befores, before, listIn}
 
 -- two lists of texts are equal, as a test
-eqls : List (List ℕ) → List (List ℕ) → Bool
+abbrev eqls : List (List ℕ) → List (List ℕ) → Bool
 eqls [] [] = true
 eqls [] (y ∷ ys) = false
 eqls (x ∷ xs) [] = false
 eqls (x ∷ xs) (y ∷ ys) = eql x y && eqls xs ys
 
 eqls-true : (a b : List (List ℕ)) → eqls a b ≡ true → a ≡ b
-unfolding eqls
 eqls-true [] [] e = refl
 eqls-true [] (y ∷ ys) e = absurd (false≢true e)
 eqls-true (x ∷ xs) [] e = absurd (false≢true e)
@@ -46,9 +40,9 @@ counted : ℕ → Bool
 unfolding lists
 counted l = eqb (before (l + 1) - before l) (length (codes l))
 
-speltSmall : ℕ → Bool
-unfolding lists smallTable cut cuts listIn eqls
-speltSmall l = eqls (listIn smallTable l) (smallCodes l)
+-- a table spells a list in small letters
+abbrev pub speltSmall : List ℕ → ℕ → Bool
+speltSmall all l = eqls (listIn all l) (smallCodes l)
 
 -- ---- what they say of each list
 
@@ -67,9 +61,9 @@ module _ (l : ℕ) (h : l < 8) where
 
 -- ---- past the last list there is none
 
--- a number that is not below n, nor n
-pub one-more : {l n : ℕ} → n ≤ l → (l ≡ n → ⊥) → n + 1 ≤ l
-one-more h e = omega arith
+-- a number that is not below n, nor one of the next four
+pub four-more : {l n : ℕ} → n ≤ l → (l ≡ n → ⊥) → (l ≡ n + 1 → ⊥) → (l ≡ n + 2 → ⊥) → (l ≡ n + 3 → ⊥) → n + 4 ≤ l
+four-more h p q r s = omega arith
 
 module _ (l : ℕ) (h : 8 ≤ l) where
   pub no-list : codes l ≡ []
@@ -98,17 +92,22 @@ nothing (suc k) = refl
 pub no-number : (k : ℕ) → false ≡ leb 1 k && leb k 0
 no-number k = by-test (leb 1 k) (λ e. rw (e, lt-leb k 0 (omega (arith, leb-true 1 k e)))) (λ e. rw e)
 
-module _ (l : ℕ) where
-  pub small-in : listIn smallTable l ≡ smallCodes l
-  unfolding speltSmall
+pub none-at : (l : ℕ) → 8 ≤ l → (all : List ℕ) (k : ℕ) → [] ≡ getD ([] ∷ listIn all l) k []
+none-at l h all k = nothing k ∙ sym (ap (λ (ts : List (List ℕ)). getD ([] ∷ ts) k []) (none-in l h all))
+
+-- ---- a table that spells all lists in small letters
+
+module _ (all : List ℕ) (l : ℕ) (s : T (below 8 (speltSmall all))) where
+  small-in : listIn all l ≡ smallCodes l
   small-in =
       by-test (ltb l 8)
-      (λ e. eqls-true _ _ (below-at 8 speltSmall tt l (ltb-true l 8 e)))
-      (λ e. none-in l (ltb-false l 8 e) smallTable ∙ sym (ap (map small) (no-list l (ltb-false l 8 e))))
+      (λ e. eqls-true _ _ (below-at 8 (speltSmall all) s l (ltb-true l 8 e)))
+      (λ e. none-in l (ltb-false l 8 e) all ∙ sym (ap (map small) (no-list l (ltb-false l 8 e))))
 
-  pub small-at : (k : ℕ) → getD ([] ∷ listIn smallTable l) k [] ≡ smallText l k
+  pub small-found : (t : List ℕ) {r : ℕ} → r ≡ find 1 t (listIn all l) → r ≡ smallCodeOf l t
+  unfolding smallCodeOf
+  small-found t e = rw small-in at e
+
+  pub small-at : (k : ℕ) → getD ([] ∷ listIn all l) k [] ≡ smallText l k
   unfolding smallText
-  small-at k = ap (λ (ts : List (List ℕ)). getD ([] ∷ ts) k []) small-in
-
-  pub none-at : 8 ≤ l → (all : List ℕ) (k : ℕ) → [] ≡ getD ([] ∷ listIn all l) k []
-  none-at h all k = nothing k ∙ sym (ap (λ (ts : List (List ℕ)). getD ([] ∷ ts) k []) (none-in l h all))
+  small-at k = rw small-in

@@ -1,4 +1,4 @@
--- The code lists of CAP 1.2 (source document 007, clause 7.4), in the schema's order and spelling. A code's number is its place in its list, counted from 1.
+-- The code lists of CAP 1.2 (source document 007, clause 7.4), in the schema's order and spelling. A code's number is its index in its list, from 1.
 use mathlib.Core.Bool.{Bool, cond, _&&_}
 use mathlib.Core.List.{List, [], _∷_, map}
 use Prim.Native.Nat.{ℕ, _+_}

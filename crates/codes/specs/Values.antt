@@ -17,7 +17,7 @@ use Rattle.codes.specs.declared.Certainty.the-variants as certainty
 use Rattle.codes.specs.Lists as list
 use Rattle.codes.specs.Lists.{smallText}
 
--- ---- a value's number: its place in its list, counted from 1
+-- ---- a value's number: its index in its list, counted from 1
 
 abbrev pub messageNumber : MessageType → ℕ
 messageNumber message.Alert = 1

@@ -138,7 +138,7 @@ pub fn small_code_of(list: usize, t: &[u8]) -> usize
     find_in(&SMALL, BEFORE[list], BEFORE[list + 1], t)
 }
 
-// Writes the code of a number, in small letters, from the place at on; nothing where the list has no such number.
+// Writes the code of a number, in small letters, from `at` on; nothing where the list has no such number.
 pub fn put_code(dst: &mut [u8], at: usize, list: usize, k: usize) -> usize
     ensures { λ r. ⌜ Put (now (dst .entry)) at (smallText list k) (now (dst .exit)) r ⌝ }
 {

@@ -1,4 +1,4 @@
-// Values by their numbers: a value's number is its place in its list, counted from 1. A number that is none gives the last.
+// Values by their numbers: a value's number is its index in its list, counted from 1. A number that is none gives the last.
 use crate::Certainty;
 use crate::MessageType;
 use crate::Scope;

@@ -14,14 +14,14 @@ use mir.Syntax.{w32}
 use mir.Val.{SFits, toZ, ofZ}
 use mir.Facts.{toZ-pos, toZ-ofZ}
 use Rattle.text.specs.Logic.{by-test, first-arm, second-arm, clash}
-use Rattle.integers.specs.Magnitude.{abs-neg, mag-abs, signed}
-use Rattle.integers.specs.Bits.{read, read-given-32}
+use Rattle.integers.specs.Magnitude.{abs-neg, signed}
+use Rattle.integers.specs.Bits.{read, read-given, fits-abs}
 use Rattle.coordinates.specs.Decimal.{leads, scaled, decimalLength, decimalAt}
 use Rattle.coordinates.specs.Place.{signLength, unsigned, isCoordinate, coordinateValue, coordinateAt}
 use Rattle.coordinates.specs.declared.Decimal.the-variants as decimal
 use Rattle.coordinates.specs.declared.Coordinate.the-variants.{Value, Fault}
 use Rattle.coordinates.proofs.Leading.{leads-in}
-use Rattle.coordinates.proofs.Decimals.{Written, written, not-written}
+use Rattle.coordinates.proofs.Decimals.{DecimalRead, decimal-read, no-decimal-read}
 
 -- ---- the sign
 
@@ -47,7 +47,7 @@ module _ (m : ℕ) (h : m ≤ 1_800_000_000) where
   minus = rw plain (+ℤ-idl (negℤ (pos m)))
 
   pub minus-fits : SFits w32 (pos 0 -ℤ toZ w32 m)
-  minus-fits = rw minus (record { sfits = mag-abs (negℤ (pos m)) 2_147_483_648 (rw abs-neg (omega arith)) })
+  minus-fits = rw minus (fits-abs (rw abs-neg (omega arith)))
 
   pub minus-is : (b : Bool) → b ≡ true → toZ w32 (ofZ w32 (pos 0 -ℤ toZ w32 m)) ≡ signed b m
   minus-is b e = rw e (toZ-ofZ minus-fits ∙ minus)
@@ -70,25 +70,28 @@ module _ (s : List ℕ) (at limit start : ℕ) (b : start ≡ at + signLength (d
 
   pub no-decimal : decimalAt 3 7 start (drop start s) ≡ decimal.Fault → Fault ≡ coordinateAt limit at (drop at s)
   unfolding coordinateAt
-  no-decimal q = rw (rw rest at (not-written 3 7 start (drop start s) q))
+  no-decimal q = rw (rw rest at (no-decimal-read 3 7 start (drop start s) q))
 
   module _ (m e : ℕ) (q : decimalAt 3 7 start (drop start s) ≡ decimal.Value m e) where
-    given : Written 3 7 start (unsigned (drop at s)) m e
-    given = rw rest at (written 3 7 start (drop start s) m e q)
+    given : DecimalRead 3 7 start (unsigned (drop at s)) m e
+    given = rw rest at (decimal-read 3 7 start (drop start s) m e q)
 
     pub beyond : limit < m → Fault ≡ coordinateAt limit at (drop at s)
     unfolding coordinateAt
     beyond h = rw (given .is, lt-leb (scaled 7 (unsigned (drop at s))) limit (rw (given .value) at h))
 
-    pub within-limit : m ≤ limit → (minus : Bool) → minus ≡ leads (code "-") (drop at s) → (z : ℤ) → z ≡ signed minus m → mag z < 2_147_483_648 → Value (read w32 z) e ≡ coordinateAt limit at (drop at s)
+    pub within-limit :
+        m ≤ limit → (minus : Bool) → minus ≡ leads (code "-") (drop at s) → (z : ℤ) → z ≡ signed minus m → mag z < 2_147_483_648
+        → Value (read w32 z) e ≡ coordinateAt limit at (drop at s)
     unfolding coordinateAt
     within-limit h minus p z v g =
         let x : e ≡ at + (signLength (drop at s) + decimalLength (unsigned (drop at s))) = omega (arith, given .end) in
-        rw (given .is, le-leb (scaled 7 (unsigned (drop at s))) limit (rw (given .value) at h), read-given-32 z g, v, signed-is minus m, p, given .value, x)
+        rw (given .is, le-leb (scaled 7 (unsigned (drop at s))) limit (rw (given .value) at h), read-given w32 z g, v, signed-is minus m)
+        (rw (p, given .value, x))
 
 -- ---- what a coordinate that was read says
 
--- z is the coordinate at place i, and e the place after it
+-- z is the coordinate at offset i, and e the offset after it
 pub record Measured (limit i : ℕ) (l : List ℕ) (z : ℤ) (e : ℕ) : Type 0 where
   pub is : isCoordinate limit l ≡ true
   pub value : z ≡ coordinateValue l
@@ -103,17 +106,17 @@ module _ (limit i : ℕ) (l : List ℕ) where
   unfolding coordinateAt
   not-measured q = second-arm _ _ _ (isCoordinate limit l) q (λ p. fault≢value _ _ (sym p))
 
-  -- the same coordinate, in a text that stands at place j
-  pub from-place : (j : ℕ) (z : ℤ) (e : ℕ) → coordinateAt limit i l ≡ Value z e → coordinateAt limit j l ≡ Value z (j + (e - i))
+  -- the same coordinate, in a text that stands at offset j
+  pub coordinate-moved : (j : ℕ) (z : ℤ) (e : ℕ) → coordinateAt limit i l ≡ Value z e → coordinateAt limit j l ≡ Value z (j + (e - i))
   unfolding coordinateAt
-  from-place j z e q =
+  coordinate-moved j z e q =
       let m = measured z e q in
       let k : j + (signLength l + decimalLength (unsigned l)) ≡ j + (e - i) = omega (arith, m .end) in
       rw (m .is, m .value, k)
 
-  pub no-place : (j : ℕ) → coordinateAt limit i l ≡ Fault → coordinateAt limit j l ≡ Fault
+  pub fault-moved : (j : ℕ) → coordinateAt limit i l ≡ Fault → coordinateAt limit j l ≡ Fault
   unfolding coordinateAt
-  no-place j q = rw (not-measured q)
+  fault-moved j q = rw (not-measured q)
 
   pub coordinate-start : (z : ℤ) (e : ℕ) → coordinateAt limit i l ≡ Value z e → i ≤ e
   coordinate-start z e q = omega (arith, measured z e q .end)

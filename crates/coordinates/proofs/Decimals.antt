@@ -72,12 +72,13 @@ module _ (s : List ℕ) (at w f : ℕ) where
           with-part m b g =
               let k : 1 ≤ digits (drop (p + 1) s) = pos-of-ne-zero (λ z. m (omega (arith, parts .end))) in
               let x : q ≡ at + (digits (drop at s) + (1 + digits (drop (p + 1) s))) = omega (arith, found .end, parts .end) in
-              rw (h, g, ran-count f (p + 1) (drop (p + 1) s) v q r₂, found .value, parts .value, x, fits, pointed, part, le-leb 1 (digits (drop (p + 1) s)) k, le-leb (digits (drop (p + 1) s)) f (parts .few))
+              rw (h, g, ran-count f (p + 1) (drop (p + 1) s) v q r₂, found .value, parts .value, x, fits, pointed, part)
+              (rw (le-leb 1 (digits (drop (p + 1) s)) k, le-leb (digits (drop (p + 1) s)) f (parts .few)))
 
 -- ---- what a decimal that was read says
 
--- v is the number that the decimal at place i writes, in units of its f-th place, and e the place after it
-pub record Written (w f i : ℕ) (l : List ℕ) (v e : ℕ) : Type 0 where
+-- v is the number that the decimal at offset i writes, in units of its f-th decimal place, and e the offset after it
+pub record DecimalRead (w f i : ℕ) (l : List ℕ) (v e : ℕ) : Type 0 where
   pub is : isDecimal w f l ≡ true
   pub value : v ≡ scaled f l
   pub end : e ≡ i + decimalLength l
@@ -86,10 +87,10 @@ fault≢value : (v e : ℕ) → Fault ≡ Value v e → ⊥
 fault≢value v e q = clash (cc)
 
 module _ (w f i : ℕ) (l : List ℕ) where
-  pub written : (v e : ℕ) → decimalAt w f i l ≡ Value v e → Written w f i l v e
+  pub decimal-read : (v e : ℕ) → decimalAt w f i l ≡ Value v e → DecimalRead w f i l v e
   unfolding decimalAt
-  written v e q = let (t, p) = first-arm _ _ _ (isDecimal w f l) q (fault≢value v e) in record { is = t; value = cc; end = cc }
+  decimal-read v e q = let (t, p) = first-arm _ _ _ (isDecimal w f l) q (fault≢value v e) in record { is = t; value = cc; end = cc }
 
-  pub not-written : decimalAt w f i l ≡ Fault → isDecimal w f l ≡ false
+  pub no-decimal-read : decimalAt w f i l ≡ Fault → isDecimal w f l ≡ false
   unfolding decimalAt
-  not-written q = second-arm _ _ _ (isDecimal w f l) q (λ p. fault≢value _ _ (sym p))
+  no-decimal-read q = second-arm _ _ _ (isDecimal w f l) q (λ p. fault≢value _ _ (sym p))

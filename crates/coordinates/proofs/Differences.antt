@@ -11,7 +11,7 @@ use mir.Val.{Fits, SFits}
 use mir.Facts.{toZ-ofZ}
 use Rattle.coordinates.specs.Place.{within}
 use Rattle.integers.specs.Magnitude.{isNegative}
-use Rattle.integers.specs.Bits.{read, read-small, read-given-32, wide-far, negated-fits, negated-is, negated-cast, plain-cast}
+use Rattle.integers.specs.Bits.{read, read-small, read-given, wide-far, negated-fits, negated-is, negated-cast, plain-cast}
 
 -- d is the difference that a callee gave, of coordinates that were read from their bits
 module _ (a b d : ℤ) (fa : SFits w32 a) (fb : SFits w32 b) (e : d ≡ read w32 a -ℤ read w32 b) where
@@ -40,4 +40,4 @@ module _ (a b d : ℤ) (fa : SFits w32 a) (fb : SFits w32 b) (e : d ≡ read w32
 
 -- the test of a range, of a struct's coordinate that was read from its bits
 pub within-is : (limit : ℕ) (z : ℤ) (r : Bool) → mag z < 2_147_483_648 → r ≡ within limit (read w32 z) → r ≡ within limit z
-within-is limit z r h e = e ∙ ap (within limit) (read-given-32 z h)
+within-is limit z r h e = e ∙ ap (within limit) (read-given w32 z h)

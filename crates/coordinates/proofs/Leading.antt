@@ -1,4 +1,4 @@
--- A byte at a place of a text.
+-- A byte at an offset of a text.
 use mathlib.Core.Path.{_≡_, sym, _∙_}
 use mathlib.Core.Bool.{true, false, false≢true}
 use mathlib.Core.List.{List}
@@ -20,13 +20,13 @@ module _ (s : List ℕ) (i b : ℕ) where
   unfolding leads
   leads-none h = rw (drop-of-length-le s h)
 
-  -- where a byte leads the rest, the place is within the text
+  -- where a byte leads the rest, the offset is within the text
   pub leads-in : leads b (drop i s) ≡ true → i < length s
   leads-in e =
       by-test (ltb i (length s))
       (λ t. ltb-true i (length s) t)
       (λ t. absurd (false≢true (sym (leads-none (ltb-false i (length s) t)) ∙ e)))
 
--- what stands at a place of the rest from i on, by its place in the text
+-- what stands at an offset of the rest from i on, by its offset in the text
 pub drop-after : (s : List ℕ) (i e : ℕ) → i ≤ e → drop (e - i) (drop i s) ≡ drop e s
 drop-after s i e h = drop-drop (e - i) i s ∙ rw (add-sub-of-le h)

@@ -12,7 +12,7 @@ use lib.Signed.{mag}
 use lib.ListN.{length, drop}
 use mir.Syntax.{w32}
 use Rattle.text.specs.Logic.{clash}
-use Rattle.integers.specs.Bits.{read, read-given-32}
+use Rattle.integers.specs.Bits.{read, read-given}
 use Rattle.coordinates.specs.Decimal.{leads}
 use Rattle.coordinates.specs.Place.{latitudeLimit, longitudeLimit, coordinateAt, leadingPair, standingAt, pairOf}
 use Rattle.coordinates.specs.declared.Coordinate.the-variants as coordinate
@@ -21,20 +21,20 @@ use Rattle.coordinates.specs.declared.Pair.the-variants as pair
 use Rattle.coordinates.specs.declared.LeadingPair.{LeadingPair}
 use Rattle.coordinates.specs.declared.LeadingPair.the-variants as leading
 use Rattle.coordinates.proofs.Leading.{drop-after}
-use Rattle.coordinates.proofs.Coordinates.{from-place, no-place, coordinate-start}
+use Rattle.coordinates.proofs.Coordinates.{coordinate-moved, fault-moved, coordinate-start}
 
--- ---- a pair that leads the text from the place i on
+-- ---- a pair that leads the text from offset i on
 
 module _ (s : List ℕ) (i : ℕ) where
   pub no-latitude : coordinateAt latitudeLimit i (drop i s) ≡ coordinate.Fault → leading.Fault ≡ standingAt i (leadingPair (drop i s))
-  no-latitude q = rw (no-place latitudeLimit i (drop i s) 0 q)
+  no-latitude q = rw (fault-moved latitudeLimit i (drop i s) 0 q)
 
   module _ (y : ℤ) (e : ℕ) (q : coordinateAt latitudeLimit i (drop i s) ≡ coordinate.Value y e) where
     start : i ≤ e
     start = coordinate-start latitudeLimit i (drop i s) y e q
 
     latitude : coordinateAt latitudeLimit 0 (drop i s) ≡ coordinate.Value y (e - i)
-    latitude = from-place latitudeLimit i (drop i s) 0 y e q ∙ ap (coordinate.Value y) (zero-add (e - i))
+    latitude = coordinate-moved latitudeLimit i (drop i s) 0 y e q ∙ ap (coordinate.Value y) (zero-add (e - i))
 
     comma : drop (e - i) (drop i s) ≡ drop e s
     comma = drop-after s i e start
@@ -46,15 +46,18 @@ module _ (s : List ℕ) (i : ℕ) where
     no-comma h = rw (latitude, comma, h)
 
     module _ (h : leads (code ",") (drop e s) ≡ true) where
-      pub no-longitude : coordinateAt longitudeLimit (e + 1) (drop (e + 1) s) ≡ coordinate.Fault → leading.Fault ≡ standingAt i (leadingPair (drop i s))
-      no-longitude d = rw (latitude, comma, h, rest, no-place longitudeLimit (e + 1) (drop (e + 1) s) (e - i + 1) d)
+      pub no-longitude :
+          coordinateAt longitudeLimit (e + 1) (drop (e + 1) s) ≡ coordinate.Fault → leading.Fault ≡ standingAt i (leadingPair (drop i s))
+      no-longitude d = rw (latitude, comma, h, rest, fault-moved longitudeLimit (e + 1) (drop (e + 1) s) (e - i + 1) d)
 
-      pub both : (x : ℤ) (k : ℕ) → coordinateAt longitudeLimit (e + 1) (drop (e + 1) s) ≡ coordinate.Value x k → mag y < 2_147_483_648 → mag x < 2_147_483_648 → leading.At (record { lat = read w32 y; lon = read w32 x }) k ≡ standingAt i (leadingPair (drop i s))
+      pub both :
+          (x : ℤ) (k : ℕ) → coordinateAt longitudeLimit (e + 1) (drop (e + 1) s) ≡ coordinate.Value x k → mag y < 2_147_483_648
+          → mag x < 2_147_483_648 → leading.At (record { lat = read w32 y; lon = read w32 x }) k ≡ standingAt i (leadingPair (drop i s))
       both x k d gy gx =
           let n : k ≡ i + (e - i + 1 + (k - (e + 1))) = omega (arith, start, coordinate-start longitudeLimit (e + 1) (drop (e + 1) s) x k d) in
-          rw (latitude, comma, h, rest, from-place longitudeLimit (e + 1) (drop (e + 1) s) (e - i + 1) x k d, read-given-32 y gy, read-given-32 x gx, ← n)
+          rw (latitude, comma, h, rest, coordinate-moved longitudeLimit (e + 1) (drop (e + 1) s) (e - i + 1) x k d, ← n) (simp (read-given w32))
 
--- ---- a pair, from what stands at place i
+-- ---- a pair, from what stands at offset i
 
 pub stands-none : (i : ℕ) (o : LeadingPair) → standingAt i o ≡ leading.Fault → o ≡ leading.Fault
 stands-none i (leading.At q n) h = cc

@@ -1,4 +1,4 @@
--- A run of digits: one step of it at a place of a text, for the loop that reads it, and what a run that was read says of the text.
+-- A run of digits: one step of it at an offset of a text, for the loop that reads it, and what a run that was read says of the text.
 use mathlib.Core.Path.{_≡_, refl, sym, _∙_}
 use mathlib.Core.Bool.{true, false, cond}
 use mathlib.Core.List.{List, [], _∷_}
@@ -22,7 +22,7 @@ use Rattle.coordinates.proofs.Tens.{tens-le}
 
 -- ---- one step
 
--- the digits that lead the text l, which stands at place i, if they are at most `left`, after digits that wrote v
+-- the digits that lead the text l, which stands at offset i, if they are at most `left`, after digits that wrote v
 unfoldable pub runFrom : ℕ → ℕ → ℕ → List ℕ → Run
 runFrom left i v l = cond (leb (digits l) left) (Value (numberFrom v (take (digits l) l)) (i + digits l)) TooLong
 
@@ -36,7 +36,8 @@ leb-less d left h =
     (λ t. le-leb (suc d) left (omega (arith, leb-true d (left - 1) t)) ∙ sym t)
     (λ t. lt-leb (suc d) left (omega (arith, leb-false d (left - 1) t)) ∙ sym t)
 
-digit-on : (left i v b : ℕ) (l : List ℕ) → 0 < left → isDigit b ≡ true → runFrom left i v (b ∷ l) ≡ runFrom (left - 1) (suc i) (v * 10 + (b - code "0")) l
+digit-on :
+    (left i v b : ℕ) (l : List ℕ) → 0 < left → isDigit b ≡ true → runFrom left i v (b ∷ l) ≡ runFrom (left - 1) (suc i) (v * 10 + (b - code "0")) l
 unfolding runFrom numberFrom
 digit-on left i v b l h e =
     let n : 10 * v + (b - code "0") ≡ v * 10 + (b - code "0") = omega arith in
@@ -48,7 +49,9 @@ unfolding runFrom numberFrom
 no-digits left i v l e = rw (e, leb·zero left, add-zero i)
 
 module _ (s : List ℕ) (i left v : ℕ) where
-  pub run-on : i < length s → isDigit (getD s i 0) ≡ true → 0 < left → runFrom left i v (drop i s) ≡ runFrom (left - 1) (i + 1) (v * 10 + (getD s i 0 - code "0")) (drop (i + 1) s)
+  pub run-on :
+      i < length s → isDigit (getD s i 0) ≡ true → 0 < left
+      → runFrom left i v (drop i s) ≡ runFrom (left - 1) (i + 1) (v * 10 + (getD s i 0 - code "0")) (drop (i + 1) s)
   run-on h e m = rw (drop-cons s i 0 h, add-one i) (digit-on left i v (getD s i 0) (drop (suc i) s) m e)
 
   pub run-stop : i < length s → isDigit (getD s i 0) ≡ false → runFrom left i v (drop i s) ≡ Value v i
@@ -70,7 +73,8 @@ pub digit-ge : (b : ℕ) → isDigit b ≡ true → code "0" ≤ b
 digit-ge b e = leb-true (code "0") b (and-left (leb (code "0") b) (leb b (code "9")) e)
 
 -- one digit more
-pub more-lt : (most left v b : ℕ) → left ≤ most → 0 < left → v < 10 ^ (most - left) → isDigit b ≡ true → v * 10 + (b - code "0") < 10 ^ (most - (left - 1))
+pub more-lt :
+    (most left v b : ℕ) → left ≤ most → 0 < left → v < 10 ^ (most - left) → isDigit b ≡ true → v * 10 + (b - code "0") < 10 ^ (most - (left - 1))
 more-lt most left v b m h g e =
     let p : most - (left - 1) ≡ suc (most - left) = omega arith in
     rw (p, pow-suc) (omega (arith, digit-le b e))
@@ -107,7 +111,7 @@ number-lt l = omega (arith, number-from-lt 0 l)
 
 -- ---- what a run that was read says
 
--- v is the number that the digits at place i write, at most `most` of them, and e the place after them
+-- v is the number that the digits at offset i write, at most `most` of them, and e the offset after them
 pub record Ran (most i : ℕ) (l : List ℕ) (v e : ℕ) : Type 0 where
   pub few : digits l ≤ most
   pub value : v ≡ number (take (digits l) l)

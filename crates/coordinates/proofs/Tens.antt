@@ -26,7 +26,8 @@ only-seven : (k : ℕ) → k ≤ 7 → 7 ≤ k → k ≡ 7
 only-seven k h g = omega arith
 
 -- the last power, where it is none of the others
-pub last-power : (k : ℕ) → k ≤ 7 → (k ≡ 0 → ⊥) → (k ≡ 1 → ⊥) → (k ≡ 2 → ⊥) → (k ≡ 3 → ⊥) → (k ≡ 4 → ⊥) → (k ≡ 5 → ⊥) → (k ≡ 6 → ⊥) → 10_000_000 ≡ 10 ^ k
+pub last-power :
+    (k : ℕ) → k ≤ 7 → (k ≡ 0 → ⊥) → (k ≡ 1 → ⊥) → (k ≡ 2 → ⊥) → (k ≡ 3 → ⊥) → (k ≡ 4 → ⊥) → (k ≡ 5 → ⊥) → (k ≡ 6 → ⊥) → 10_000_000 ≡ 10 ^ k
 last-power k h a b c d e f g =
     let low = not-yet 6 k (not-yet 5 k (not-yet 4 k (not-yet 3 k (not-yet 2 k (not-yet 1 k (not-yet 0 k zero-le a) b) c) d) e) f) g in
     let z : k ≡ 7 = only-seven k h low in

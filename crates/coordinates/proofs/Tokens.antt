@@ -1,4 +1,5 @@
--- What leads a text and its first token: no byte of a pair is white space, so that digits, decimals, coordinates and pairs end within the token that they lead, and are the same read from the token alone.
+-- What leads a text and its first token: no byte of a pair is white space, so digits, decimals, coordinates and pairs end within the token that they
+-- lead, and are the same read from the token alone.
 use mathlib.Core.Path.{_≡_, refl, sym, ap, _∙_}
 use mathlib.Core.Bool.{Bool, true, false, not, false≢true, _||_}
 use mathlib.Core.List.{List, [], _∷_}
@@ -23,7 +24,7 @@ use Rattle.coordinates.specs.declared.Coordinate.the-variants as coordin
 use Rattle.coordinates.specs.declared.Pair.the-variants as pair
 use Rattle.coordinates.specs.declared.LeadingPair.the-variants as leading
 use Rattle.coordinates.proofs.Runs.{digit-ge}
-use Rattle.coordinates.proofs.Coordinates.{measured, from-place}
+use Rattle.coordinates.proofs.Coordinates.{measured, coordinate-moved}
 
 -- ---- the token that leads a text
 
@@ -68,7 +69,8 @@ module _ (b : ℕ) (n : isSpace b ≡ false) where
 digit-no-space : (b : ℕ) → isDigit b ≡ true → isSpace b ≡ false
 digit-no-space b e =
     let h = digit-ge b e in
-    rw (ne-eqb b (code "\t") (λ p. omega arith), ne-eqb b (code "\n") (λ p. omega arith), ne-eqb b (code "\r") (λ p. omega arith), ne-eqb b (code " ") (λ p. omega arith))
+    rw (ne-eqb b (code "\t") (λ p. omega arith), ne-eqb b (code "\n") (λ p. omega arith))
+    (rw (ne-eqb b (code "\r") (λ p. omega arith), ne-eqb b (code " ") (λ p. omega arith)))
 
 digits-token : (l : List ℕ) → digits (token l) ≡ digits l
 digits-token [] = refl
@@ -123,7 +125,9 @@ module _ (l : List ℕ) where
   unfolding decimalLength places
   decimal-within =
       by-test (hasPoint l)
-      (λ e. rw e (omega (arith, digits-within (drop 1 (afterWhole l)), run-rest notSpace 1 (afterWhole l) (point-within e), run-rest notSpace (digits l) l (digits-within l))))
+      (λ e.
+      let r = run-rest notSpace (digits l) l (digits-within l) in
+      rw e (omega (arith, digits-within (drop 1 (afterWhole l)), run-rest notSpace 1 (afterWhole l) (point-within e))))
       (λ e. rw e (digits-within l))
 
 -- ---- a coordinate
@@ -188,7 +192,8 @@ module _ (l : List ℕ) where
       far y x k n q t d =
           omega (
             arith,
-            coordinate-within (drop (k + 1) l) longitudeLimit x (0 + (n - (k + 1))) (from-place longitudeLimit (k + 1) (drop (k + 1) l) 0 x n d),
+            coordinate-within (drop (k + 1) l) longitudeLimit x (0 + (n - (k + 1)))
+                (coordinate-moved longitudeLimit (k + 1) (drop (k + 1) l) 0 x n d),
             run-rest notSpace (k + 1) l (comma-within y k q t),
           )
 
@@ -215,7 +220,8 @@ module _ (l : List ℕ) where
     pub pair-part : onToken (drop e l) ≡ true → pairOf (token l) ≡ pair.Fault
     unfolding pairOf
     pair-part t =
-        rw (leading-token, q, token-length l, ne-eqb e (tokenLength l) (λ z. omega (arith, token-some (drop e l) t, run-rest notSpace e l (leading-within p e q))))
+        let r = run-rest notSpace e l (leading-within p e q) in
+        rw (leading-token, q, token-length l, ne-eqb e (tokenLength l) (λ z. omega (arith, token-some (drop e l) t)))
 
   pub pair-none : leadingPair l ≡ leading.Fault → pairOf (token l) ≡ pair.Fault
   unfolding pairOf

@@ -42,11 +42,11 @@ decimalLength l = cond (hasPoint l) (digits l + (1 + places l)) (digits l)
 unfoldable pub isDecimal : ℕ → ℕ → List ℕ → Bool
 isDecimal w f l = leb 1 (digits l) && leb (digits l) w && (not (hasPoint l) || leb 1 (places l) && leb (places l) f)
 
--- the number that is written, in units of the f-th place after the point
+-- the number that is written, in units of the f-th decimal place
 unfoldable pub scaled : ℕ → List ℕ → ℕ
 scaled f l = number (whole l) * 10 ^ f + number (fraction l) * 10 ^ (f - places l)
 
--- the decimal that leads the text l, which stands at place i
+-- the decimal that leads the text l, which stands at offset i
 unfoldable pub decimalAt : ℕ → ℕ → ℕ → List ℕ → Decimal
 decimalAt w f i l = cond (isDecimal w f l) (Value (scaled f l) (i + decimalLength l)) Fault
 

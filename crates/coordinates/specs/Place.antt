@@ -46,7 +46,7 @@ isCoordinate limit l = isDecimal 3 7 (unsigned l) && leb (scaled 7 (unsigned l))
 abbrev pub coordinateValue : List ℕ → ℤ
 coordinateValue l = cond (leads (code "-") l) (negℤ (pos (scaled 7 (unsigned l)))) (pos (scaled 7 (unsigned l)))
 
--- the coordinate that leads the text l, which stands at place i
+-- the coordinate that leads the text l, which stands at offset i
 unfoldable pub coordinateAt : ℕ → ℕ → List ℕ → Coordinate
 coordinateAt limit i l =
     cond (isCoordinate limit l)
@@ -77,7 +77,7 @@ withLatitude l Fault = leading.Fault
 abbrev pub leadingPair : List ℕ → LeadingPair
 leadingPair l = withLatitude l (coordinateAt latitudeLimit 0 l)
 
--- the same, in a text that stands at place i: the pair and the place after it
+-- the same, in a text that stands at offset i: the pair and the offset after it
 abbrev pub standingAt : ℕ → LeadingPair → LeadingPair
 standingAt i (leading.At p n) = leading.At p (i + n)
 standingAt i leading.Fault = leading.Fault

@@ -23,19 +23,19 @@ pub struct Place {
     pub lon: i32,
 }
 
-// The number that a run of digits writes and the place after it, or that it has too many digits.
+// The number that a run of digits writes and the offset after it, or that it has too many digits.
 pub enum Run {
     Value(u64, usize),
     TooLong,
 }
 
-// A number that a decimal writes and the place after it, or that no such decimal stands there.
+// A number that a decimal writes and the offset after it, or that no such decimal stands there.
 pub enum Decimal {
     Value(u64, usize),
     Fault,
 }
 
-// A signed coordinate and the place after it, or that none stands there.
+// A signed coordinate and the offset after it, or that none stands there.
 pub enum Coordinate {
     Value(i32, usize),
     Fault,
@@ -53,7 +53,7 @@ pub enum Pair {
     Fault,
 }
 
-// A place that leads a text and the place after it, or that none does.
+// A place that leads a text and the offset after it, or that none does.
 pub enum LeadingPair {
     At(Place, usize),
     Fault,

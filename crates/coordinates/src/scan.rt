@@ -1,4 +1,4 @@
-// Decimals at a place of a text: digits, optionally a point and digits; and with a sign, coordinates.
+// Decimals at an offset of a text: digits, optionally a point and digits; and with a sign, coordinates.
 use super::Coordinate;
 use super::Decimal;
 use super::Run;
@@ -80,7 +80,7 @@ fn scale(value: u64, power: usize) -> u64
     value * power_of_ten(power)
 }
 
-// The decimal at `at`: 1 to `whole` digits, optionally a point and 1 to `places` digits, in units of the last of these places.
+// The decimal at `at`: 1 to `whole` digits, optionally a point and 1 to `places` digits, in units of the last of these decimal places.
 pub fn decimal_at(s: &[u8], at: usize, whole: usize, places: usize) -> Decimal
     requires { ⌜ (whole ≤ 7) × (places ≤ 7) ⌝ }
     ensures { λ r. ⌜ r ≡ decimalAt whole places at (drop at (now (s .entry))) ⌝ }
@@ -107,7 +107,7 @@ pub fn decimal_at(s: &[u8], at: usize, whole: usize, places: usize) -> Decimal
     Decimal::Value(value + scale(parts, places - (end - start)), end)
 }
 
-// The place after a sign at `at`, or `at` where none stands.
+// The offset after a sign at `at`, or `at` where none stands.
 fn after_sign(s: &[u8], at: usize) -> usize
     ensures { λ r. ⌜ r ≡ at + signLength (drop at (now (s .entry))) ⌝ }
 {

@@ -1,13 +1,14 @@
--- A signed local holds bits: `toZ w` reads the integer that they are in two's complement, `ofZ w` makes them. Laws of operations over integers that are read back from their bits, in the form in which the checker asks for them.
+-- A signed local holds bits: `toZ w` reads the integer that they are in two's complement, `ofZ w` makes them. Laws of operations over integers that
+-- are read back from their bits, in the form in which the checker asks for them.
 use mathlib.Core.Path.{_≡_, _∙_}
 use mathlib.Core.Bool.{true, false}
-use Prim.Native.Nat.{ℕ, _≤_, _<_}
+use Prim.Native.Nat.{ℕ, _^_, _≤_, _<_}
 use native.Mathlib.Omega.{arith}
 use lib.Dec.{T}
 use lib.IntN.{ℤ, pos, natAbs, _-ℤ_}
 use lib.Signed.{mag, nonNeg}
 use mir.Syntax.{Width, w32, w64}
-use mir.Val.{Fits, SFits, toZ, ofZ}
+use mir.Val.{hbits, Fits, SFits, toZ, ofZ}
 use mir.Facts.{toZ-ofZ, sfits-widen}
 use Rattle.integers.specs.Magnitude.{abs-sub-mag, mag-abs, isNegative, not-negative, negated-is as negated-of}
 
@@ -15,18 +16,15 @@ use Rattle.integers.specs.Magnitude.{abs-sub-mag, mag-abs, isNegative, n
 abbrev pub read : Width → ℤ → ℤ
 read w z = toZ w (ofZ w z)
 
-pub fits-abs : (z : ℤ) → natAbs z ≤ 9_223_372_036_854_775_807 → SFits w64 z
-fits-abs z h = record { sfits = mag-abs z 9_223_372_036_854_775_808 (omega arith) }
+pub fits-abs : {w : Width} {z : ℤ} → natAbs z < 2 ^ hbits w → SFits w z
+fits-abs {w} {z} h = record { sfits = mag-abs z (2 ^ hbits w) h }
 
 -- what a callee gave, or a struct's field: its range is a fact on the magnitude
-pub read-given-32 : (z : ℤ) → mag z < 2_147_483_648 → read w32 z ≡ z
-read-given-32 z h = toZ-ofZ {w = w32} (record { sfits = h })
-
-pub read-given : (z : ℤ) → mag z < 9_223_372_036_854_775_808 → read w64 z ≡ z
-read-given z h = toZ-ofZ {w = w64} (record { sfits = h })
+pub read-given : (w : Width) (z : ℤ) → mag z < 2 ^ hbits w → read w z ≡ z
+read-given w z h = toZ-ofZ {w = w} (record { sfits = h })
 
 pub read-small : (z : ℤ) → natAbs z ≤ 9_223_372_036_854_775_807 → read w64 z ≡ z
-read-small z h = toZ-ofZ (fits-abs z h)
+read-small z h = toZ-ofZ (fits-abs (omega arith))
 
 -- ---- 32 bits widened to 64
 
@@ -51,7 +49,7 @@ module _ (a b : ℤ) (fa : SFits w32 a) (fb : SFits w32 b) where
     apart-le = rw apart wide-far
 
   pub wide-sub-fits : SFits w64 (read w64 (read w32 a) -ℤ read w64 (read w32 b))
-  wide-sub-fits = rw (wide-is a fa, wide-is b fb) (fits-abs (a -ℤ b) (omega (arith, wide-far)))
+  wide-sub-fits = rw (wide-is a fa, wide-is b fb) (fits-abs (omega (arith, wide-far)))
 
   pub wide-sub-is : read w64 (read w64 (read w32 a) -ℤ read w64 (read w32 b)) ≡ a -ℤ b
   wide-sub-is = toZ-ofZ wide-sub-fits ∙ rw (wide-is a fa, wide-is b fb)
@@ -64,7 +62,7 @@ module _ (a : ℤ) (h : natAbs a ≤ 9_223_372_036_854_775_807) where
     negated = rw (read-small a h) (negated-of a (rw (read-small a h) at e))
 
     pub negated-fits : SFits w64 (pos 0 -ℤ read w64 a)
-    negated-fits = rw negated (fits-abs (pos (natAbs a)) h)
+    negated-fits = rw negated (fits-abs (omega arith))
 
     pub negated-is : read w64 (pos 0 -ℤ read w64 a) ≡ pos (natAbs a)
     negated-is = rw negated (read-small (pos (natAbs a)) h)

@@ -9,7 +9,7 @@ use lib.Signed.{mag}
 use mir.Syntax.{w32, w64}
 use mir.Val.{SFits, toZ}
 use mir.Facts.{toZ-ofZ, toZ-pos}
-use Rattle.integers.specs.Bits.{read, read-given-32}
+use Rattle.integers.specs.Bits.{read, read-given}
 use Rattle.packet.specs.BigEndian.{numberOf}
 use Rattle.packet.specs.Packet.{coordinate}
 
@@ -36,8 +36,8 @@ module _ (x : ℕ) (f : x < 0x1_0000_0000) (h : 0x8000_0000 ≤ x) where
 -- a coordinate, from the bits that were read and the integer that they are
 pub coordinate-is : (p : List ℕ) (at x : ℕ) (z : ℤ) → mag z < 0x8000_0000 → z ≡ toZ w32 x → x ≡ numberOf 4 at p → read w32 z ≡ coordinate at p
 unfolding coordinate
-coordinate-is p at x z h e f = read-given-32 z h ∙ e ∙ ap (toZ w32) f
+coordinate-is p at x z h e f = read-given w32 z h ∙ e ∙ ap (toZ w32) f
 
 -- a coordinate that a callee gave, read back from its bits
 pub given-as : (z v : ℤ) → mag z < 0x8000_0000 → z ≡ v → read w32 z ≡ v
-given-as z v h e = read-given-32 z h ∙ e
+given-as z v h e = read-given w32 z h ∙ e

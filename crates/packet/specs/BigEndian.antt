@@ -11,6 +11,6 @@ bigEndianFrom n (b ∷ l) = bigEndianFrom (0x100 * n + b) l
 abbrev pub bigEndian : List ℕ → ℕ
 bigEndian l = bigEndianFrom 0 l
 
--- the number of `width` bytes from the place `at` on
+-- the number of `width` bytes from the offset `at` on
 unfoldable pub numberOf : ℕ → ℕ → List ℕ → ℕ
 numberOf width at p = bigEndian (take width (drop at p))

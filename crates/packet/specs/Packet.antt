@@ -101,7 +101,7 @@ packetOf p =
     (cond (not (flag 0 p)) (packet.Refused fault.NotAlert)
     (alertOf p))))
 
--- document 01's number for each fault; the place is 0
+-- document 01's number for each fault; its offset is 0
 abbrev pub faultNumber : Fault → ℕ
 faultNumber fault.Short = 1
 faultNumber fault.NotWarn = 2
@@ -152,7 +152,7 @@ placedIn (packet.Refused e) p = placed.Refused e
 unfoldable pub packetPlace : List ℕ → Place → PacketPlace
 packetPlace p place = placedIn (packetOf p) place
 
--- document 01's number for each refusal of a place, 0 for an answer; the place is 0
+-- document 01's number for each refusal of a place, 0 for an answer; its offset is 0
 abbrev pub placeNumber : PacketPlace → ℕ
 placeNumber placed.Inside = 0
 placeNumber placed.Outside = 0

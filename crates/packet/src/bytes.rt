@@ -1,4 +1,4 @@
-// Numbers at a place of a packet: big-endian, of 1, 2, 4 and 8 bytes, without a sign or with one.
+// Numbers at an offset of a packet: big-endian, of 1, 2, 4 and 8 bytes, without a sign or with one.
 ghost use mathlib.Core.Path.{_≡_};
 ghost use Prim.Native.Nat.{_+_, _^_, _<_, _≤_};
 ghost use lib.ListN.{length};

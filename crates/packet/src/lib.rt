@@ -153,7 +153,7 @@ pub fn packet_place(p: &[u8], place: Place) -> PacketPlace
     }
 }
 
-// Document 01's number for a fault; the place is 0.
+// Document 01's number for a fault; its offset is 0.
 pub fn fault_number(fault: Fault) -> u8
     ensures { λ r. ⌜ r ≡ faultNumber fault ⌝ }
 {

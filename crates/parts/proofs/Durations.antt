@@ -63,7 +63,7 @@ module _ (start end : ℤ) (near : (natAbs start ≤ farthest) × (natAbs end �
 -- an instant that is handed on
 pub start-given :
     (effective sent : Time) (i : ℤ) → effective ≡ Instant i → mag i < 9_223_372_036_854_775_808 → Instant (read w64 i) ≡ startOf effective sent
-start-given effective sent i e h = rw e (ap Instant (read-given i h))
+start-given effective sent i e h = rw e (ap Instant (read-given w64 i h))
 
 module _ (t : Time) (i : ℤ) (is : t ≡ Instant i) (near : isNear t) where
   near-instant : natAbs i ≤ farthest

@@ -6,7 +6,7 @@ use lib.IntN.{ℤ, _-ℤ_, _*ℤ_}
 use lib.Signed.{mag, ltZ}
 use mir.Syntax.{w32}
 use Rattle.text.specs.Logic.{and-assoc}
-use Rattle.integers.specs.Bits.{read, read-given-32}
+use Rattle.integers.specs.Bits.{read, read-given}
 use Rattle.coordinates.specs.declared.Place.{Place}
 use Rattle.polygon.specs.declared.edges.Tally.{Tally}
 use Rattle.polygon.specs.Polygon.{same, samePlace, between, eastOf, northOf, onEdge, crosses}
@@ -19,23 +19,34 @@ Low z = mag z < 2_147_483_648
 
 module _ (a b p : Place) where
   module _ (v : ℤ) where
-    pub east-is : v ≡ (read w32 (p .lon) -ℤ read w32 (a .lon)) *ℤ (read w32 (b .lat) -ℤ read w32 (a .lat)) → Low (p .lon) → Low (a .lon) → Low (b .lat) → Low (a .lat) → v ≡ eastOf a b p
+    pub east-is :
+        v ≡ (read w32 (p .lon) -ℤ read w32 (a .lon)) *ℤ (read w32 (b .lat) -ℤ read w32 (a .lat))
+        → Low (p .lon) → Low (a .lon) → Low (b .lat) → Low (a .lat) → v ≡ eastOf a b p
     unfolding eastOf
-    east-is e h₁ h₂ h₃ h₄ = e ∙ rw (read-given-32 (p .lon) h₁, read-given-32 (a .lon) h₂, read-given-32 (b .lat) h₃, read-given-32 (a .lat) h₄)
+    east-is e h₁ h₂ h₃ h₄ = e ∙ simp (read-given w32)
 
-    pub north-is : v ≡ (read w32 (b .lon) -ℤ read w32 (a .lon)) *ℤ (read w32 (p .lat) -ℤ read w32 (a .lat)) → Low (b .lon) → Low (a .lon) → Low (p .lat) → Low (a .lat) → v ≡ northOf a b p
+    pub north-is :
+        v ≡ (read w32 (b .lon) -ℤ read w32 (a .lon)) *ℤ (read w32 (p .lat) -ℤ read w32 (a .lat))
+        → Low (b .lon) → Low (a .lon) → Low (p .lat) → Low (a .lat) → v ≡ northOf a b p
     unfolding northOf
-    north-is e h₁ h₂ h₃ h₄ = e ∙ rw (read-given-32 (b .lon) h₁, read-given-32 (a .lon) h₂, read-given-32 (p .lat) h₃, read-given-32 (a .lat) h₄)
+    north-is e h₁ h₂ h₃ h₄ = e ∙ simp (read-given w32)
 
-  pub box-is : (s t : Bool) → s ≡ between (read w32 (a .lat)) (read w32 (b .lat)) (read w32 (p .lat)) → t ≡ between (read w32 (a .lon)) (read w32 (b .lon)) (read w32 (p .lon)) → Low (a .lat) → Low (b .lat) → Low (p .lat) → Low (a .lon) → Low (b .lon) → Low (p .lon) → s && t ≡ inBox a b p
-  box-is s t es et h₁ h₂ h₃ h₄ h₅ h₆ =
-      rw (es, et, read-given-32 (a .lat) h₁, read-given-32 (b .lat) h₂, read-given-32 (p .lat) h₃, read-given-32 (a .lon) h₄, read-given-32 (b .lon) h₅, read-given-32 (p .lon) h₆)
+  pub box-is :
+      (s t : Bool) → s ≡ between (read w32 (a .lat)) (read w32 (b .lat)) (read w32 (p .lat))
+      → t ≡ between (read w32 (a .lon)) (read w32 (b .lon)) (read w32 (p .lon))
+      → Low (a .lat) → Low (b .lat) → Low (p .lat) → Low (a .lon) → Low (b .lon) → Low (p .lon) → s && t ≡ inBox a b p
+  box-is s t es et h₁ h₂ h₃ h₄ h₅ h₆ = rw (es, et) (simp (read-given w32))
 
-  pub counted : (u v : ℤ) (less more box crossed : Bool) → u ≡ eastOf a b p → v ≡ northOf a b p → less ≡ ltZ u v → more ≡ ltZ v u → box ≡ inBox a b p → crossed ≡ crossedBy (read w32 (a .lat)) (read w32 (b .lat)) (read w32 (p .lat)) less more → Low (a .lat) → Low (b .lat) → Low (p .lat) → _≡_ {A = Tally} (record { on = not less && not more && box; crossed = crossed }) (edgeOf a b p)
+  pub counted :
+      (u v : ℤ) (less more box crossed : Bool) → u ≡ eastOf a b p → v ≡ northOf a b p → less ≡ ltZ u v → more ≡ ltZ v u → box ≡ inBox a b p
+      → crossed ≡ crossedBy (read w32 (a .lat)) (read w32 (b .lat)) (read w32 (p .lat)) less more → Low (a .lat) → Low (b .lat) → Low (p .lat)
+      → _≡_ {A = Tally} (record { on = not less && not more && box; crossed = crossed }) (edgeOf a b p)
   unfolding onEdge crosses
   counted u v less more box crossed eu ev el em eb ec ha hb hp =
-      let ec′ : crossed ≡ crossedBy (a .lat) (b .lat) (p .lat) less more = ec ∙ rw (read-given-32 (a .lat) ha, read-given-32 (b .lat) hb, read-given-32 (p .lat) hp) in
-      rw (ec′, eb, el, em, eu, ev, same-is (eastOf a b p) (northOf a b p), and-assoc (not (ltZ (eastOf a b p) (northOf a b p)) && not (ltZ (northOf a b p) (eastOf a b p))) (between (a .lat) (b .lat) (p .lat)) (between (a .lon) (b .lon) (p .lon)))
+      let ec′ : crossed ≡ crossedBy (a .lat) (b .lat) (p .lat) less more = ec ∙ simp (read-given w32) in
+      rw (ec′, eb, el, em, eu, ev, same-is (eastOf a b p) (northOf a b p)) (simp and-assoc)
 
-pub same-place-is : (p q : Place) (s t : Bool) → s ≡ same (read w32 (p .lat)) (read w32 (q .lat)) → t ≡ same (read w32 (p .lon)) (read w32 (q .lon)) → Low (p .lat) → Low (q .lat) → Low (p .lon) → Low (q .lon) → s && t ≡ samePlace p q
-same-place-is p q s t es et h₁ h₂ h₃ h₄ = rw (es, et, read-given-32 (p .lat) h₁, read-given-32 (q .lat) h₂, read-given-32 (p .lon) h₃, read-given-32 (q .lon) h₄)
+pub same-place-is :
+    (p q : Place) (s t : Bool) → s ≡ same (read w32 (p .lat)) (read w32 (q .lat)) → t ≡ same (read w32 (p .lon)) (read w32 (q .lon))
+    → Low (p .lat) → Low (q .lat) → Low (p .lon) → Low (q .lon) → s && t ≡ samePlace p q
+same-place-is p q s t es et h₁ h₂ h₃ h₄ = rw (es, et) (simp (read-given w32))

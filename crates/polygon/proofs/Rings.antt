@@ -1,4 +1,4 @@
--- What the ring of a text says of a place, as a fold over its tokens: from what was read so far, the tokens that are left say what the whole text says.
+-- What the ring of a text says of a place, as a fold over its tokens: after those that were read, the tokens that are left say what the text says.
 use mathlib.Core.Path.{_≡_, refl, sym, _∙_}
 use mathlib.Core.Bool.{Bool, true, false, cond, not, Bool·beq, _&&_}
 use mathlib.Core.List.{List, [], _∷_}
@@ -105,8 +105,11 @@ holds-all j p first last n sum (t ∷ ts) =
     (λ e. rw e)
 
 -- one token more
-module _ (j : Bool) (p first last : Place) (n : ℕ) (sum : Tally) (l : List ℕ) (at : ℕ) (r : Inclusion) (v : holdsWith j p first last n sum (tokens (drop at l)) ≡ r) where
-  pub holds-next : (q : Place) (e : ℕ) {more : Tally} → nextOf l at ≡ next.Pair q e → more ≡ tallied j p sum last q → holdsWith j p first q (n + 1) more (tokens (drop e l)) ≡ r
+module _ (j : Bool) (p first last : Place) (n : ℕ) (sum : Tally) (l : List ℕ) (at : ℕ) (r : Inclusion)
+    (v : holdsWith j p first last n sum (tokens (drop at l)) ≡ r) where
+  pub holds-next :
+      (q : Place) (e : ℕ) {more : Tally} → nextOf l at ≡ next.Pair q e → more ≡ tallied j p sum last q
+      → holdsWith j p first q (n + 1) more (tokens (drop e l)) ≡ r
   unfolding holdsWith
   holds-next q e h g = let k = says l at (next.Pair q e) h in rw g (rw (k .1 .0 .first, k .1 .1) at v)
 
@@ -134,7 +137,7 @@ module _ (p : Place) (l : List ℕ) where
       let s : 1 + length ts ≡ suc (length ts) = omega arith in
       holds-all false p q q 1 none ts ∙ rw (ring-none p q none (placesOf ts), s, k .1 .0 .first, k .1 .1)
 
-  -- a text that starts with no pair: the answer is one of the two other variants, by their places in the declaration
+  -- a text that starts with no pair: the answer is one of the two other variants, by their indices in the declaration
   none-whole : (n : Next) → OneOf (1 ∷ 2 ∷ []) (tagOf the-type n) → n ≡ nextOf l 0 → isPolygon l ≡ false
   unfolding isPolygon allPairs placesOf isClosed
   none-whole (next.Pair p e) k h = absurd (⊎-elim (λ f. omega arith) (λ f. omega arith) k)

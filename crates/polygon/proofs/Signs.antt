@@ -1,7 +1,7 @@
 -- Differences and their products by sign and magnitude, over coordinates that are read back from their bits.
 use mathlib.Core.Path.{_≡_, sym}
 use mathlib.Core.Bool.{not, Bool·beq, _&&_}
-use Prim.Native.Nat.{ℕ, _-_, _*_, _≤_}
+use Prim.Native.Nat.{ℕ, _*_, _≤_}
 use native.Mathlib.Nat.{mul-le-mul}
 use native.Mathlib.Omega.{arith}
 use lib.IntN.{ℤ, natAbs, _-ℤ_, _*ℤ_}
@@ -23,7 +23,8 @@ same-is a b = rw (le-not-less a b, le-not-less b a) (and-comm (not (ltZ b a)) (n
 
 -- ---- the product of two differences
 
-module _ (a b c d : ℤ) (fa : SFits w32 a) (fb : SFits w32 b) (fc : SFits w32 c) (fd : SFits w32 d) (m n : ℕ) (em : m ≡ natAbs (read w32 a -ℤ read w32 b)) (en : n ≡ natAbs (read w32 c -ℤ read w32 d)) where
+module _ (a b c d : ℤ) (fa : SFits w32 a) (fb : SFits w32 b) (fc : SFits w32 c) (fd : SFits w32 d)
+    (m n : ℕ) (em : m ≡ natAbs (read w32 a -ℤ read w32 b)) (en : n ≡ natAbs (read w32 c -ℤ read w32 d)) where
   first-is : m ≡ natAbs (a -ℤ b)
   first-is = apart a b fa fb m em
 

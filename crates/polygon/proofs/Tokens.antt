@@ -28,7 +28,7 @@ use Rattle.polygon.specs.Next.{startOf, endOf, tokenAt, endingAt, nextOf
 
 -- ---- the reading
 
--- whether a token goes on at a place, by the byte there
+-- whether a token goes on at an offset, by the byte there
 module _ (l : List ℕ) (i : ℕ) where
   pub on-at : {t : Bool} → i < length l → t ≡ isSpace (getD l i 0) → not t ≡ onToken (drop i l)
   unfolding onToken
@@ -117,7 +117,9 @@ says l at n e =
     (λ t. no-token l at (leb-true (length l) (startOf l at) t))
     (λ t. go (pairOf (tokenAt l (startOf l at))) refl (token-is l at (leb-false (length l) (startOf l at) t))))
   where
-    go : (v : Pair) → pairOf (tokenAt l (startOf l at)) ≡ v → Token l at (tokenAt l (startOf l at)) (endOf l (startOf l at)) → Says l at (endingAt (endOf l (startOf l at)) v)
+    go :
+        (v : Pair) → pairOf (tokenAt l (startOf l at)) ≡ v → Token l at (tokenAt l (startOf l at)) (endOf l (startOf l at))
+        → Says l at (endingAt (endOf l (startOf l at)) v)
     go (pair.At p) q k = (tokenAt l (startOf l at), (k, q))
     go pair.Fault q k = (tokenAt l (startOf l at), (endOf l (startOf l at), (k, q)))
 

@@ -1,4 +1,4 @@
--- The next pair of a text from a place on, as it is read.
+-- The next pair of a text from an offset on, as it is read.
 use mathlib.Core.Bool.{cond}
 use mathlib.Core.List.{List}
 use Prim.Native.Nat.{ℕ, _+_}

@@ -1,5 +1,5 @@
 -- Polygons (document 01, "Is the studio inside"): their texts, and whether a place lies inside, on the flat grid of latitude and longitude, exact.
-use mathlib.Core.Bool.{Bool, true, false, cond, not, _&&_, _||_}
+use mathlib.Core.Bool.{Bool, true, false, cond, _&&_, _||_}
 use mathlib.Core.List.{List, [], _∷_}
 use Prim.Native.Nat.{ℕ, _+_, _%_}
 use lib.Dec.{eqb, leb}
@@ -56,7 +56,8 @@ isPolygon l = allPairs (tokens l) && leb 4 (length (tokens l)) && isClosed (plac
 
 -- ---- an edge from a to b, and a place p
 
--- Two products that are equal where p lies on the line through a and b: p's way east of a times the edge's way north, and the edge's way east times p's way north of a.
+-- two products that are equal where p lies on the line through a and b: p's way east of a times the edge's way north, and the edge's way east times
+-- p's way north of a
 unfoldable pub eastOf : Place → Place → Place → ℤ
 eastOf a b p = (p .lon -ℤ a .lon) *ℤ (b .lat -ℤ a .lat)
 
@@ -73,7 +74,9 @@ onEdge a b p =
     && between (a .lat) (b .lat) (p .lat)
     && between (a .lon) (b .lon) (p .lon)
 
--- "one end at or below its latitude, the other above, and cross that latitude strictly east of it". The edge crosses p's latitude (northOf a b p) / (b .lat - a .lat) east of a, so strictly east of p means eastOf < northOf where b lies north of a, and the other way round where it lies south.
+-- "one end at or below its latitude, the other above, and cross that latitude strictly east of it". The edge crosses p's latitude
+-- (northOf a b p) / (b .lat - a .lat) east of a, so strictly east of p means eastOf < northOf where b lies north of a, and the other way round
+-- where it lies south.
 abbrev pub crossesAt : ℤ → ℤ → ℤ → ℤ → ℤ → Bool
 crossesAt a b z east north = leZ a z && ltZ z b && ltZ east north || leZ b z && ltZ z a && ltZ north east
 

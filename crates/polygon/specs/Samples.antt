@@ -5,7 +5,7 @@ use mathlib.Core.List.{List}
 use Prim.Native.Nat.{ℕ}
 use lib.IntN.{ℤ, pos, negℤ, _*ℤ_}
 use Rattle.text.specs.Ascii.{ascii}
-use Rattle.text.specs.Bytes.{digits, numberFrom}
+use Rattle.text.specs.Bytes.{numberFrom}
 use Rattle.text.specs.Tokens.{onToken, longer, tokens}
 use Rattle.coordinates.specs.declared.Place.{Place}
 use Rattle.coordinates.specs.declared.Inclusion.the-variants.{Inside, Outside, Fault}
@@ -35,7 +35,8 @@ pub polygons :
     × (isPolygon (ascii "0,0 0,1 1,0 1,1") ≡ false)
     × (isPolygon (ascii "0,0 0,1 1,0; 0,0") ≡ false)
     × (isPolygon (ascii " ") ≡ false)
-unfolding isPolygon allPairs placesOf isClosed lastOf pairOf degreesOf coordinateAt scaled fraction places decimalLength isDecimal leads numberFrom tokens onToken longer
+unfolding isPolygon allPairs placesOf isClosed lastOf pairOf degreesOf coordinateAt scaled fraction places decimalLength isDecimal leads numberFrom
+    tokens onToken longer
 polygons = (refl, refl, refl, refl, refl, refl)
 
 -- The square: a vertex, two edges, the middle; level with vertices in the west, below and above, and in the east; east of the middle.
@@ -55,5 +56,6 @@ pub held :
     × (polygonHolds triangle (degrees (pos 0) (negℤ (pos 9))) ≡ Inside)
     × (polygonHolds triangle (degrees (pos 0) (negℤ (pos 11))) ≡ Outside)
     × (polygonHolds (ascii "0,0 0,1 0,0") (degrees (pos 0) (pos 0)) ≡ Fault)
-unfolding polygonHolds inRing onRing crossings onEdge crosses eastOf northOf isPolygon allPairs placesOf isClosed lastOf pairOf degreesOf coordinateAt scaled fraction places decimalLength isDecimal leads numberFrom tokens onToken longer
+unfolding polygonHolds inRing onRing crossings onEdge crosses eastOf northOf isPolygon allPairs placesOf isClosed lastOf pairOf degreesOf coordinateAt
+    scaled fraction places decimalLength isDecimal leads numberFrom tokens onToken longer
 held = (refl, refl, refl, refl, refl, refl, refl, refl, refl, refl, refl, refl, refl, refl)

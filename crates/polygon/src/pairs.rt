@@ -6,14 +6,14 @@ ghost use lib.ListN.{drop};
 ghost use Rattle.text.specs.Tokens.{onToken};
 ghost use Rattle.polygon.specs.Next.{nextOf};
 
-// The next pair of a text and the place after it; or that the text ends, or that no pair stands there.
+// The next pair of a text and the offset after it; or that the text ends, or that no pair stands there.
 pub enum Next {
     Pair(Place, usize),
     End,
     Fault,
 }
 
-// Whether a token goes on at a place.
+// Whether a token goes on at an offset.
 fn on_token(s: &[u8], at: usize) -> bool
     ensures { λ r. ⌜ r ≡ onToken (drop at (now (s .entry))) ⌝ }
 {

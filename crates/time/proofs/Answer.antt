@@ -13,14 +13,14 @@ use Rattle.text.proofs.Laws.{spaces-le, all-spaces, not-all-spaces}
 use Rattle.time.specs.declared.Time.{Time}
 use Rattle.time.specs.declared.Time.the-variants.{Fault}
 use Rattle.time.specs.Time.{form, hasForm, stampTime, timeOf}
-use Rattle.time.proofs.Written.{form-length}
+use Rattle.time.proofs.Forms.{form-length}
 
 -- fewer bytes than the form has
 stamp-short : (l : List ℕ) → length l < 25 → Fault ≡ stampTime l
 unfolding stampTime
 stamp-short l h = by-test (hasForm form l) (λ e. absurd (omega (arith, form-length form l e))) (λ e. rw e)
 
--- ---- the white space around them, from the place i where the time starts
+-- ---- the white space around them; the time starts at byte i
 
 module _ (l : List ℕ) (i : ℕ) (e : i ≡ 0 + spaces l) where
   pub start-le : i ≤ length l
@@ -31,7 +31,9 @@ module _ (l : List ℕ) (i : ℕ) (e : i ≡ 0 + spaces l) where
   time-at = let p : i ≡ spaces l = omega arith in rw (p, drop-drop 25 (spaces l) l)
 
   pub time-short : length l - i < 25 → Fault ≡ timeOf l
-  time-short h = rw (time-at, drop-of-length-le l {i = i + 25} (omega arith), take-all 25 (drop i l) (omega (arith, length-drop i l))) (stamp-short (drop i l) (omega (arith, length-drop i l)))
+  time-short h =
+      rw (time-at, drop-of-length-le l {i = i + 25} (omega arith), take-all 25 (drop i l) (omega (arith, length-drop i l)))
+      (stamp-short (drop i l) (omega (arith, length-drop i l)))
 
   module _ (j : ℕ) (h : i + 25 ≤ length l) (f : j ≡ i + 25 + spaces (drop (i + 25) l)) where
     pub time-stray : (j ≡ length l → ⊥) → Fault ≡ timeOf l

@@ -27,8 +27,8 @@ dated y m d e =
       day-high = omega (arith, leb-true d (monthDays y m) e6, month-le y m);
     }
 
-pub days-le : (y m d : ℕ) → Dated y m d → daysBefore y m d ≤ 3_660_000
-days-le y m d b = omega (arith, years-le (y - 1), months-le y (m - 1))
+pub days-le : {y m d : ℕ} → Dated y m d → daysBefore y m d ≤ 3_660_000
+days-le {y} {m} b = omega (arith, years-le (y - 1), months-le y (m - 1))
 
 pub stamped : (t : Stamp) → isStamp t ≡ true → Stamped t
 unfolding isStamp

@@ -1,23 +1,26 @@
 -- Laws of the calendar: the days of years in closed form, those of months by a table, and how many they are.
 use mathlib.Core.Path.{_≡_, refl, ap}
 use mathlib.Core.Bool.{Bool, true, false, cond, not, _&&_, _||_, false≢true}
-use mathlib.Core.List.{List, [], _∷_}
+use mathlib.Core.List.{List}
 use mathlib.Core.Logic.{⊎-elim}
 use Prim.Native.Nat.{ℕ, zero, suc, _+_, _-_, _*_, _/_, _%_, _≤_, _<_}
 use native.Mathlib.Nat.{div-le-self, div-add-mod, div-self, div-eq-of-lt, mod-self, mod-lt, mod-eq-of-lt, mul-add-div, mul-add-mod-self-left, eq-or-lt-of-le}
 use native.Mathlib.Omega.{arith}
 use borrow.Author.Tests.{eqb-true, eq-eqb, ne-eqb}
-use lib.Dec.{T, eqb, ltb}
+use lib.Dec.{eqb, ltb}
 use lib.ListN.{getD}
 use mir.Val.{boolByte}
-use Rattle.text.specs.Logic.{by-test, and-left, and-right, below, below-at}
+use Rattle.text.specs.Logic.{by-test, and-left, and-right, below-at}
 use Rattle.time.specs.Calendar.{isLeap, yearDays, monthDays, daysOfYears, daysOfMonths}
+use Rattle.time.specs.Limits.{isTabled, Tabled}
 
 -- ---- years
 
 -- a quotient grows by one at each multiple of the divisor
 up-to : (d n : ℕ) → 0 < d → 0 < n → n ≤ d → n / d ≡ boolByte (eqb (n % d) 0)
-up-to d n h g k = ⊎-elim (λ (e : n ≡ d). rw (e, div-self h, mod-self d)) (λ (l : n < d). rw (div-eq-of-lt l, mod-eq-of-lt l, ne-eqb n 0 (λ e. omega arith))) (eq-or-lt-of-le k)
+up-to d n h g k =
+    ⊎-elim (λ (e : n ≡ d). rw (e, div-self h, mod-self d)) (λ (l : n < d). rw (div-eq-of-lt l, mod-eq-of-lt l, ne-eqb n 0 (λ e. omega arith)))
+    (eq-or-lt-of-le k)
 
 quotient : (d k : ℕ) → 0 < d → suc k / d ≡ k / d + boolByte (eqb (suc k % d) 0)
 quotient d k h =
@@ -26,7 +29,8 @@ quotient d k h =
     (ap (λ (n : ℕ). k / d + n) (up-to d (suc (k % d)) h (omega arith) (mod-lt k h)))
 
 -- the leap year's rule as a sum, where c goes with b and b with a
-leap-sum : (a b c : Bool) → (c ≡ true → b ≡ true) → (b ≡ true → a ≡ true) → cond (a && not b || c) 366 365 + boolByte b ≡ 365 + boolByte a + boolByte c
+leap-sum :
+    (a b c : Bool) → (c ≡ true → b ≡ true) → (b ≡ true → a ≡ true) → cond (a && not b || c) 366 365 + boolByte b ≡ 365 + boolByte a + boolByte c
 leap-sum true true true h g = refl
 leap-sum true true false h g = refl
 leap-sum true false true h g = absurd (false≢true (h refl))
@@ -82,29 +86,14 @@ unfolding daysOfMonths
 same-kind y z zero e = refl
 same-kind y z (suc n) e = rw (e, same-kind y z n e)
 
--- the days of a common year before each month, by the month's number
-abbrev pub before : List ℕ
-before = 0 ∷ 0 ∷ 31 ∷ 59 ∷ 90 ∷ 120 ∷ 151 ∷ 181 ∷ 212 ∷ 243 ∷ 273 ∷ 304 ∷ 334 ∷ []
+module _ {before : List ℕ} {m : ℕ} (p : Tabled before m) (y : ℕ) (b : Bool) (e : b ≡ isLeap y) where
+  tabled : isTabled before 1 m && isTabled before 4 m ≡ true
+  tabled = below-at 13 (λ (k : ℕ). isTabled before 1 k && isTabled before 4 k) (p .right) m (p .month-high)
 
-right : ℕ → ℕ → Bool
-right y m = eqb (getD before m 0 + boolByte (ltb 2 m && isLeap y)) (daysOfMonths y (m - 1))
+  like : (z : ℕ) → isLeap y ≡ isLeap z → isTabled before z m ≡ true → getD before m 0 + boolByte (ltb 2 m && b) ≡ daysOfMonths y (m - 1)
+  like z k t = rw (e, k, same-kind y z (m - 1) k) (eqb-true _ _ t)
 
--- the years 4, a leap year, and 1, a common year, stand for all
-both-right : ℕ → Bool
-both-right m = right 4 m && right 1 m
-
-all-right : T (below 13 both-right)
-unfolding right both-right daysOfMonths
-all-right = tt
-
-like : (y z m : ℕ) → isLeap y ≡ isLeap z → right z m ≡ true → getD before m 0 + boolByte (ltb 2 m && isLeap y) ≡ daysOfMonths y (m - 1)
-unfolding right
-like y z m e t = rw (e, same-kind y z (m - 1) e) (eqb-true _ _ t)
-
--- the table, with the leap day from March on
-pub months-table : (y m : ℕ) (b : Bool) → m < 13 → b ≡ isLeap y → getD before m 0 + boolByte (ltb 2 m && b) ≡ daysOfMonths y (m - 1)
-unfolding both-right
-months-table y m b h e =
-    let t = below-at 13 both-right all-right m h in
-    rw e
-    (by-test (isLeap y) (λ p. like y 4 m p (and-left (right 4 m) (right 1 m) t)) (λ p. like y 1 m p (and-right (right 4 m) (right 1 m) t)))
+  -- the table, with the leap day from March on
+  pub months-table : getD before m 0 + boolByte (ltb 2 m && b) ≡ daysOfMonths y (m - 1)
+  months-table =
+      by-test (isLeap y) (λ k. like 4 k (and-right (isTabled before 1 m) _ tabled)) (λ k. like 1 k (and-left _ (isTabled before 4 m) tabled))

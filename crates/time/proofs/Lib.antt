@@ -1,6 +1,6 @@
 pub mod Range
 mod Days
-mod Written
+mod Forms
 mod Bounds
 mod Seconds
 mod Answer

@@ -27,7 +27,7 @@ epoch-reads = record { is = ap pos epoch-is }
 module _ (t : Stamp) (b : Stamped t) where
   local-le : localSeconds t ≤ 317_000_000_000
   unfolding localSeconds
-  local-le = omega (arith, days-le (t .year) (t .month) (t .day) (b .date))
+  local-le = omega (arith, days-le (b .date))
 
   -- ---- the offset
   abbrev ahead : ℕ
@@ -56,7 +56,7 @@ module _ (t : Stamp) (b : Stamped t) where
   ahead-reads = reads-pos ahead (omega (arith, ahead-le))
 
   pub ahead-fits : SFits w64 (pos ahead)
-  ahead-fits = fits-abs (pos ahead) (omega (arith, ahead-le))
+  ahead-fits = fits-abs (omega (arith, ahead-le))
 
   pub west-fits : SFits w64 (pos 0 -ℤ toZ w64 ahead)
   west-fits = neg-fits ahead-reads (omega (arith, ahead-le))
@@ -72,7 +72,7 @@ module _ (t : Stamp) (b : Stamped t) where
   -- ---- the code's arithmetic: the instant, from the local seconds l and the offset z that the callees gave
   module _ (l : ℕ) (p : l ≡ localSeconds t) where
     pub local-fits : SFits w64 (pos l)
-    local-fits = fits-abs (pos l) (omega (arith, local-le))
+    local-fits = fits-abs (omega (arith, local-le))
 
     local-reads : Reads l (pos (localSeconds t))
     local-reads = rw p (reads-pos (localSeconds t) (omega (arith, local-le)))

@@ -2,7 +2,7 @@
 use mathlib.Core.Path.{_≡_, refl}
 use lib.IntN.{pos, negℤ}
 use Rattle.text.specs.Ascii.{ascii}
-use Rattle.text.specs.Bytes.{spaces, allSpace, numberFrom}
+use Rattle.text.specs.Bytes.{numberFrom}
 use Rattle.time.specs.declared.Time.the-variants.{Instant, Fault}
 use Rattle.time.specs.Calendar.{daysOfYears, daysOfMonths}
 use Rattle.time.specs.Time.{hasForm, stampOf, isStamp, localSeconds, epoch, offset, instantOf, stampTime, timeOf}

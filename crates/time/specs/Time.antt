@@ -1,7 +1,7 @@
 -- CAP times (document 01, "The document", second paragraph) and the instants they name.
 use mathlib.Core.Bool.{Bool, true, false, cond, not, _&&_, _||_}
 use mathlib.Core.List.{List, [], _∷_}
-use Prim.Native.Nat.{ℕ, _+_, _-_, _*_}
+use Prim.Native.Nat.{ℕ, _+_, _*_}
 use Prim.Native.Char.{code}
 use lib.Dec.{eqb, leb}
 use lib.IntN.{ℤ, pos, negℤ, _-ℤ_}
@@ -35,7 +35,7 @@ hasForm [] (b ∷ l) = false
 hasForm (f ∷ fs) [] = false
 hasForm (f ∷ fs) (b ∷ l) = isFormByte f b && hasForm fs l
 
--- the number that the n digits from place i on write
+-- the number that the n digits from byte i on write
 abbrev pub digitsAt : ℕ → ℕ → List ℕ → ℕ
 digitsAt i n l = number (take n (drop i l))
 

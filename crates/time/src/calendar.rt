@@ -1,8 +1,8 @@
 // The civil calendar: leap years, and the days before a date, counted from 0001-01-01.
 ghost use mathlib.Core.Path.{_≡_};
-ghost use Prim.Native.Nat.{_≤_, _<_};
+ghost use Prim.Native.Nat.{_≤_};
 ghost use Rattle.time.specs.Calendar.{isLeap, monthDays, daysBeforeYear, daysBeforeMonth, daysBefore};
-ghost use Rattle.time.specs.Limits.{Dated};
+ghost use Rattle.time.specs.Limits.{Dated, Tabled};
 
 // The days of a common year before each month, by the month's number; there is no month 0.
 const BEFORE: [u64; 13] = [0, 0, 31, 59, 90, 120, 151, 181, 212, 243, 273, 304, 334];
@@ -40,11 +40,11 @@ fn days_before_year(y: u64) -> u64
 }
 
 // The days of a year before a month's first: from March on, the leap day too.
-fn days_before_month(y: u64, m: u64) -> u64
-    requires { ⌜ m < 13 ⌝ }
+fn days_before_month(before: &[u64; 13], y: u64, m: u64) -> u64
+    requires { ⌜ Tabled (now before) m ⌝ }
     ensures { λ r. ⌜ r ≡ daysBeforeMonth y m ⌝ }
 {
-    BEFORE[m as usize] + ((2 < m) & is_leap(y)) as u64
+    before[m as usize] + ((2 < m) & is_leap(y)) as u64
 }
 
 // The days from 0001-01-01 to a date within the limits.
@@ -52,5 +52,5 @@ pub fn days_before(y: u64, m: u64, d: u64) -> u64
     requires { ⌜ Dated y m d ⌝ }
     ensures { λ r. ⌜ (r ≡ daysBefore y m d) × (r ≤ 3_660_000) ⌝ }
 {
-    days_before_year(y) + days_before_month(y, m) + (d - 1)
+    days_before_year(y) + days_before_month(&BEFORE, y, m) + (d - 1)
 }

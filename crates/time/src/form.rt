@@ -22,7 +22,7 @@ fn is_form_byte(f: u8, b: u8) -> bool
         | ((f != b'd') & (f != b's') & (b == f))
 }
 
-// Whether each byte of a text is what the form asks at its place.
+// Whether each byte of a text is what the form asks there.
 fn has_form(form: &[u8], text: &[u8]) -> bool
     requires { ⌜ length (now form) ≡ length (now text) ⌝ }
     ensures { λ r. ⌜ r ≡ hasForm (now (form .entry)) (now (text .entry)) ⌝ }

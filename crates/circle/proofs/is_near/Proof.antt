@@ -6,10 +6,17 @@ use Rattle.circle.proofs.is_near.Statement.{statement}
 use Rattle.circle.proofs.is_near.Tie as tie
 
 scaled-requires : tie.Need-scaled-requires
-scaled-requires c κs = (apart-le _ _ (c .before .before .fits .lon) (c .before .before .fits .centre-lon) _ (c .before .distance .ensures), c .cosine-at .ensures .1)
+scaled-requires c κs =
+    let f = c .before .before .fits in
+    (apart-le _ _ (f .lon) (f .centre-lon) _ (c .before .distance .ensures), c .cosine-at .ensures .1)
 
 returns : tie.Need-returns
-returns c = let f = c .before .before .before .before .before .fits in near-is (c .before .before .before .before .before .args .centre-lat) _ (c .before .before .before .before .before .args .lat) _ _ (f .centre-lat) (f .centre-lon) (f .lat) (f .lon) _ _ _ _ _ (c .before .before .before .before .distance .ensures) (c .before .before .before .cosine-at .ensures .0) (c .before .before .scaled .ensures) (c .before .distance2 .ensures) (c .within-squares .ensures)
+returns c =
+    let d = c .before .before .before in
+    let s = d .before .before in
+    near-is (s .args .centre-lat) _ (s .args .lat) _ _ (s .fits .centre-lat) (s .fits .centre-lon) (s .fits .lat) (s .fits .lon) _ _ _ _ _
+    (d .before .distance .ensures) (d .cosine-at .ensures .0) (c .before .before .scaled .ensures) (c .before .distance2 .ensures)
+    (c .within-squares .ensures)
 
 pub is-near-spec : {M : Type 1} → statement M
 is-near-spec =

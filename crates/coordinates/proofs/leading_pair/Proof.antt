@@ -17,26 +17,29 @@ returns c = no-latitude _ _ (sym (c .before .before .coordinate-at .ensures) ∙
 
 returns-2 : tie.Need-returns-2
 returns-2 c =
-    no-comma _ _ _ _ (sym (c .before .before .before .before .before .coordinate-at .ensures) ∙ c .before .before .before .y .given .1)
-    (sym (c .before .leads .ensures) ∙ not-true _ (c .if1 .taken))
+    let d = c .before .before .before in
+    no-comma _ _ _ _ (sym (d .before .before .coordinate-at .ensures) ∙ d .y .given .1) (sym (c .before .leads .ensures) ∙ not-true _ (c .if1 .taken))
 
 add-coordinate-at : tie.Need-add-coordinate-at
 add-coordinate-at c =
-    omega (
-      arith,
-      leads-in (c .before .before .before .before .before .before .before .args .text .now) (c .before .before .before .y .given .0 .1 .0) (code ",") (sym (c .before .leads .ensures) ∙ not-false _ (c .if1 .left)),
-    )
+    let d = c .before .before .before in
+    let comma = sym (c .before .leads .ensures) ∙ not-false _ (c .if1 .left) in
+    omega (arith, leads-in (d .before .before .before .before .args .text .now) (d .y .given .0 .1 .0) (code ",") comma)
 
 returns-3 : tie.Need-returns-3
 returns-3 c =
     let e = c .before .before .before .before in
-    both _ _ _ _ (sym (e .before .before .before .before .before .coordinate-at .ensures) ∙ e .before .before .before .y .given .1) (sym (e .before .leads .ensures) ∙ not-false _ (e .if1 .left))
-    _ _ (sym (c .before .before .before .coordinate-at2 .ensures) ∙ c .before .x .given .1) (e .before .before .known-told .given .0 .1) (c .known-told2 .given .0 .1)
+    let d = e .before .before .before in
+    both _ _ _ _ (sym (d .before .before .coordinate-at .ensures) ∙ d .y .given .1) (sym (e .before .leads .ensures) ∙ not-false _ (e .if1 .left))
+    _ _ (sym (c .before .before .before .coordinate-at2 .ensures) ∙ c .before .x .given .1) (e .before .before .known-told .given .0 .1)
+    (c .known-told2 .given .0 .1)
 
 returns-4 : tie.Need-returns-4
 returns-4 c =
     let e = c .before .before .before in
-    no-longitude _ _ _ _ (sym (e .before .before .before .before .before .coordinate-at .ensures) ∙ e .before .before .before .y .given .1) (sym (e .before .leads .ensures) ∙ not-false _ (e .if1 .left))
+    let d = e .before .before .before in
+    no-longitude _ _ _ _ (sym (d .before .before .coordinate-at .ensures) ∙ d .y .given .1)
+    (sym (e .before .leads .ensures) ∙ not-false _ (e .if1 .left))
     (sym (c .before .before .coordinate-at2 .ensures) ∙ c .enum-told2 .given .1)
 
 pub leading-pair-spec : {M : Type 1} → statement M

@@ -2,7 +2,8 @@
 use mathlib.Core.Path.{sym, _∙_}
 use borrow.Author.Needs.{needs}
 use borrow.Author.Tests.{eq-eqb, ne-eqb}
-use Rattle.integers.specs.Bits.{read-given-32}
+use mir.Syntax.{w32}
+use Rattle.integers.specs.Bits.{read-given}
 use Rattle.coordinates.specs.Place.{degreesOf}
 use Rattle.coordinates.proofs.whole_text.Statement.{statement}
 use Rattle.coordinates.proofs.whole_text.Tie as tie
@@ -14,4 +15,6 @@ whole-text-spec =
     (tie.spec (λ c κs. search needs) (λ c. search needs) (λ c. search needs)
     (λ c. rw (sym (c .before .before .coordinate-at .ensures) ∙ c .enum-told .given .1))
     (λ c. rw (sym (c .before .before .before .before .coordinate-at .ensures) ∙ c .before .before .c .given .1, ne-eqb _ _ (c .if1 .taken)))
-    (λ c. rw (sym (c .before .before .before .before .coordinate-at .ensures) ∙ c .before .before .c .given .1, eq-eqb _ _ (c .if1 .left), read-given-32 _ (c .before .known-told .given .0 .1))))
+    (λ c.
+    rw (sym (c .before .before .before .before .coordinate-at .ensures) ∙ c .before .before .c .given .1, eq-eqb _ _ (c .if1 .left))
+    (rw (read-given w32 _ (c .before .known-told .given .0 .1)))))

@@ -1,4 +1,5 @@
--- Invariant: from the places read and the edges judged so far, the tokens that are left say what the whole text says of the place; and there are at most as many places as bytes passed.
+-- Invariant: after the places read and the edges judged, the tokens that are left say what the whole text says of the place; and there are at most as
+-- many places as bytes passed.
 use mathlib.Core.Path.{_≡_, sym, _∙_}
 use Prim.Native.Nat.{_-_, _≤_}
 use native.Mathlib.Omega.{arith}
@@ -19,7 +20,9 @@ abbrev μ-loop : tie.MeasureT-loop
 μ-loop text place counted first start last₀ count₀ sum₀ at₀ last count sum at = length text - at
 
 returns : tie.Need-returns Inv-loop μ-loop
-returns c = whole-none (c .before .before .before .args .place) _ (c .before .before .before .args .counted) _ (c .match .keys2) (c .before .next-pair .ensures)
+returns c =
+    let g = c .before .before .before .args in
+    whole-none (g .place) _ (g .counted) _ (c .match .keys2) (c .before .next-pair .ensures)
 
 loop-holds : tie.Need-loop-holds Inv-loop μ-loop
 loop-holds c =
@@ -27,10 +30,13 @@ loop-holds c =
     (next-further _ _ _ _ n, next-within _ _ _ _ n, whole-next _ _ _ _ _ n)
 
 add-count : tie.Need-add-count Inv-loop μ-loop
-add-count c = let n = sym (c .before .before .before .before .next-pair2 .ensures) ∙ c .before .before .next .given .1 in omega (arith, next-within _ _ _ _ n)
+add-count c =
+    let n = sym (c .before .before .before .before .next-pair2 .ensures) ∙ c .before .before .next .given .1 in omega (arith, next-within _ _ _ _ n)
 
 loop-less : tie.Need-loop-less Inv-loop μ-loop
-loop-less c = let n = sym (c .before .before .before .before .next-pair2 .ensures) ∙ c .before .before .next .given .1 in omega (arith, next-further _ _ _ _ n, next-within _ _ _ _ n)
+loop-less c =
+    let n = sym (c .before .before .before .before .next-pair2 .ensures) ∙ c .before .before .next .given .1 in
+    omega (arith, next-further _ _ _ _ n, next-within _ _ _ _ n)
 
 loop-again : tie.Need-loop-again Inv-loop μ-loop
 loop-again c =
@@ -42,11 +48,13 @@ loop-again c =
 
 returns-2 : tie.Need-returns-2 Inv-loop μ-loop
 returns-2 c =
-    holds-end _ _ _ _ _ _ _ _ _ (c .before .before .before .before .before .loop .inv .2) (sym (c .before .before .before .before .next-pair2 .ensures) ∙ c .before .before .enum-told .given .1)
+    holds-end _ _ _ _ _ _ _ _ _ (c .before .before .before .before .before .loop .inv .2)
+    (sym (c .before .before .before .before .next-pair2 .ensures) ∙ c .before .before .enum-told .given .1)
     (c .before .closes .ensures) (c .verdict .ensures)
 
 returns-3 : tie.Need-returns-3 Inv-loop μ-loop
-returns-3 c = holds-fault _ _ _ _ _ _ _ _ _ (c .before .before .before .loop .inv .2) (sym (c .before .before .next-pair2 .ensures) ∙ c .enum-told2 .given .1)
+returns-3 c =
+    holds-fault _ _ _ _ _ _ _ _ _ (c .before .before .before .loop .inv .2) (sym (c .before .before .next-pair2 .ensures) ∙ c .enum-told2 .given .1)
 
 pub walk-spec : {M : Type 1} → statement M
 walk-spec =

@@ -9,7 +9,9 @@ returns : tie.Need-returns
 returns c = time-short _ _ (c .before .skip-space .ensures) (omega arith)
 
 returns-2 : tie.Need-returns-2
-returns-2 c = time-whole _ _ (c .before .before .before .before .before .skip-space .ensures) _ (omega arith) (c .before .before .before .skip-space2 .ensures) _ (c .before .before .if2 .taken) (c .stamp-time .ensures)
+returns-2 c =
+    time-whole _ _ (c .before .before .before .before .before .skip-space .ensures) _ (omega arith) (c .before .before .before .skip-space2 .ensures)
+    _ (c .before .before .if2 .taken) (c .stamp-time .ensures)
 
 returns-3 : tie.Need-returns-3
 returns-3 c = time-stray _ _ (c .before .before .before .skip-space .ensures) _ (omega arith) (c .before .skip-space2 .ensures) (c .if2 .left)
@@ -17,5 +19,5 @@ returns-3 c = time-stray _ _ (c .before .before .before .skip-space .ensures) _ 
 pub read-time-spec : {M : Type 1} → statement M
 read-time-spec =
     tie.close
-    (tie.spec (λ c κs. search needs) (λ c. start-le (c .before .before .args .text .now) _ (c .skip-space .ensures)) returns (λ c. search needs) (λ c κs. search needs)
-    (λ c. search needs) (λ c. search needs) (λ c. search needs) (λ c κs. search needs) returns-2 returns-3)
+    (tie.spec (λ c κs. search needs) (λ c. start-le (c .before .before .args .text .now) _ (c .skip-space .ensures)) returns (λ c. search needs)
+    (λ c κs. search needs) (λ c. search needs) (λ c. search needs) (λ c. search needs) (λ c κs. search needs) returns-2 returns-3)

@@ -3,7 +3,7 @@ use Prim.Native.Nat.{zero-le}
 use borrow.Author.Needs.{needs}
 use Rattle.codes.specs.Lists.{lists, codeOf}
 use Rattle.codes.specs.Table.{cut, cuts}
-use Rattle.codes.proofs.Table.{one-more, no-code}
+use Rattle.codes.proofs.Table.{four-more, no-code}
 use Rattle.codes.proofs.texts.code_of.Statement.{statement}
 use Rattle.codes.proofs.texts.code_of.Tie as tie
 
@@ -41,8 +41,9 @@ returns-8 c = rw (c .before .before .if8 .taken) (c .find-in8 .ensures)
 
 returns-9 : tie.Need-returns-9
 returns-9 c =
-    no-code _
-    (one-more (one-more (one-more (one-more (one-more (one-more (one-more (one-more zero-le (c .before .before .before .before .before .before .before .if1 .left)) (c .before .before .before .before .before .before .if2 .left)) (c .before .before .before .before .before .if3 .left)) (c .before .before .before .before .if4 .left)) (c .before .before .before .if5 .left)) (c .before .before .if6 .left)) (c .before .if7 .left)) (c .if8 .left)) _
+    let d = c .before .before .before .before in
+    let h = four-more zero-le (d .before .before .before .if1 .left) (d .before .before .if2 .left) (d .before .if3 .left) (d .if4 .left) in
+    no-code _ (four-more h (c .before .before .before .if5 .left) (c .before .before .if6 .left) (c .before .if7 .left) (c .if8 .left)) _
 
 pub code-of-spec : {M : Type 1} → statement M
 code-of-spec =

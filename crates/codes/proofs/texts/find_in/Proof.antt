@@ -26,11 +26,9 @@ returns c =
 loop-again : tie.Need-loop-again Inv-loop μ-loop
 loop-again c =
     let a = c .before .before .before in
-    let l = a .before .loop in (
-      omega arith,
-      sym (found-later _ _ _ _ _ (a .loop-test .taken) (l .inv .0) (rw (c .before .before .cut .ensures) at (sym (c .before .equals .ensures) ∙ c .if1 .left)))
-          ∙ l .inv .1,
-    )
+    let l = a .before .loop .inv in
+    let differs = rw (c .before .before .cut .ensures) at (sym (c .before .equals .ensures) ∙ c .if1 .left) in
+    (omega arith, sym (found-later _ _ _ _ _ (a .loop-test .taken) (l .0) differs) ∙ l .1)
 
 pub find-in-spec : {M : Type 1} → statement M
 find-in-spec =

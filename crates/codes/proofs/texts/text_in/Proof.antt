@@ -30,5 +30,7 @@ returns-4 : tie.Need-returns-4
 returns-4 c = c .cut .ensures ∙ text-at _ _ _ (c .before .before .if2 .left) (c .before .if3 .left)
 
 pub text-in-spec : {M : Type 1} → statement M
-text-in-spec = tie.close (tie.spec (λ c. search needs) returns (λ c. search needs) (λ c. search needs) (λ c. search needs) (λ c. search needs) (λ c. search needs)
+text-in-spec =
+    tie.close
+    (tie.spec (λ c. search needs) returns (λ c. search needs) (λ c. search needs) (λ c. search needs) (λ c. search needs) (λ c. search needs)
     (λ c. search needs) returns-2 sub-if3 (λ c. search needs) returns-3 add-cut cut-requires returns-4)

@@ -1,4 +1,4 @@
--- `after_sign` meets its contract: where a sign stands, the place is within the text, so that the place after it fits.
+-- `after_sign` meets its contract: where a sign stands, the offset is within the text, so that the offset after it fits.
 use native.Mathlib.Omega.{arith}
 use borrow.Author.Needs.{needs}
 use Rattle.coordinates.proofs.Coordinates.{sign-in, sign-some, sign-none}
@@ -6,7 +6,9 @@ use Rattle.coordinates.proofs.scan.after_sign.Statement.{statement}
 use Rattle.coordinates.proofs.scan.after_sign.Tie as tie
 
 add-result : tie.Need-add-result
-add-result c = omega (arith, sign-in (c .before .before .before .before .args .s .now) (c .before .before .before .before .args .at) _ _ (c .before .before .leads .ensures) (c .before .leads2 .ensures) (c .if1 .taken))
+add-result c =
+    let g = c .before .before .before .before .args in
+    omega (arith, sign-in (g .s .now) (g .at) _ _ (c .before .before .leads .ensures) (c .before .leads2 .ensures) (c .if1 .taken))
 
 returns : tie.Need-returns
 returns c = sign-some _ _ _ _ (c .before .before .leads .ensures) (c .before .leads2 .ensures) (c .if1 .taken)

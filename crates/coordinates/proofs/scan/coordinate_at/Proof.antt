@@ -14,11 +14,13 @@ returns c =
 
 returns-2 : tie.Need-returns-2
 returns-2 c =
-    beyond _ _ _ _ (c .before .before .before .before .before .after-sign .ensures) _ _ (sym (c .before .before .before .before .decimal-at .ensures) ∙ c .before .before .d .given .1) (c .if1 .taken)
+    beyond _ _ _ _ (c .before .before .before .before .before .after-sign .ensures) _ _
+    (sym (c .before .before .before .before .decimal-at .ensures) ∙ c .before .before .d .given .1) (c .if1 .taken)
 
 returns-3 : tie.Need-returns-3
 returns-3 c =
-    within-limit _ _ _ _ (c .before .before .before .before .before .before .after-sign .ensures) _ _ (sym (c .before .before .before .before .before .decimal-at .ensures) ∙ c .before .before .before .d .given .1) (c .before .if1 .left)
+    within-limit _ _ _ _ (c .before .before .before .before .before .before .after-sign .ensures) _ _
+    (sym (c .before .before .before .before .before .decimal-at .ensures) ∙ c .before .before .before .d .given .1) (c .before .if1 .left)
     _ (c .before .before .before .before .before .before .before .leads .ensures) _ (c .with-sign .ensures) (c .with-sign .ok)
 
 pub coordinate-at-spec : {M : Type 1} → statement M

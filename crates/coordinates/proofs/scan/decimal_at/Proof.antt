@@ -22,35 +22,37 @@ returns-2 c =
     no-digits _ _ _ _ _ _ (sym (c .before .before .before .before .digits-at .ensures) ∙ c .before .before .w .given .1) (c .if1 .taken)
 
 scale-requires : tie.Need-scale-requires
-scale-requires c κs = (
-  ran-lt _ _ _ _ _ (sym (c .before .before .before .before .digits-at .ensures) ∙ c .before .before .w .given .1) (c .before .before .before .before .before .before .pre .0),
-  c .before .before .before .before .before .before .pre .1,
-)
+scale-requires c κs =
+    let d = c .before .before in
+    let p = d .before .before .before .before .pre in
+    (ran-lt _ _ _ _ _ (sym (d .before .before .digits-at .ensures) ∙ d .w .given .1) (p .0), p .1)
 
 returns-3 : tie.Need-returns-3
 returns-3 c =
-    no-point _ _ _ _ _ _ (sym (c .before .before .before .before .before .before .before .digits-at .ensures) ∙ c .before .before .before .before .before .w .given .1) (c .before .before .before .if1 .left) _ (c .before .before .scale .ensures .0)
-    (sym (c .before .leads .ensures) ∙ not-true _ (c .if2 .taken))
+    let d = c .before .before .before .before .before in
+    no-point _ _ _ _ _ _ (sym (d .before .before .digits-at .ensures) ∙ d .w .given .1)
+    (c .before .before .before .if1 .left) _ (c .before .before .scale .ensures .0) (sym (c .before .leads .ensures) ∙ not-true _ (c .if2 .taken))
 
 add-start : tie.Need-add-start
 add-start c =
-    omega (
-      arith,
-      leads-in (c .before .before .before .before .before .before .before .before .before .args .s .now) (c .before .before .before .before .before .w .given .0 .1 .0) (code ".") (sym (c .before .leads .ensures) ∙ not-false _ (c .if2 .left)),
-    )
+    let d = c .before .before .before .before .before in
+    let point = sym (c .before .leads .ensures) ∙ not-false _ (c .if2 .left) in
+    omega (arith, leads-in (d .before .before .before .before .args .s .now) (d .w .given .0 .1 .0) (code ".") point)
 
 returns-4 : tie.Need-returns-4
 returns-4 c =
     let e = c .before .before .before in
-    part-too-long _ _ _ _ _ _ (sym (e .before .before .before .before .before .before .before .digits-at .ensures) ∙ e .before .before .before .before .before .w .given .1) (e .before .before .before .if1 .left) _ (e .before .before .scale .ensures .0)
-    (sym (e .before .leads .ensures) ∙ not-false _ (e .if2 .left))
+    let d = e .before .before .before .before .before in
+    part-too-long _ _ _ _ _ _ (sym (d .before .before .digits-at .ensures) ∙ d .w .given .1) (e .before .before .before .if1 .left) _
+    (e .before .before .scale .ensures .0) (sym (e .before .leads .ensures) ∙ not-false _ (e .if2 .left))
     (sym (c .before .before .digits-at2 .ensures) ∙ c .enum-told2 .given .1)
 
 returns-5 : tie.Need-returns-5
 returns-5 c =
     let e = c .before .before .before .before .before in
-    part-no-digits _ _ _ _ _ _ (sym (e .before .before .before .before .before .before .before .digits-at .ensures) ∙ e .before .before .before .before .before .w .given .1) (e .before .before .before .if1 .left) _ (e .before .before .scale .ensures .0)
-    (sym (e .before .leads .ensures) ∙ not-false _ (e .if2 .left))
+    let d = e .before .before .before .before .before in
+    part-no-digits _ _ _ _ _ _ (sym (d .before .before .digits-at .ensures) ∙ d .w .given .1) (e .before .before .before .if1 .left) _
+    (e .before .before .scale .ensures .0) (sym (e .before .leads .ensures) ∙ not-false _ (e .if2 .left))
     _ _ (sym (c .before .before .before .before .digits-at2 .ensures) ∙ c .before .before .f .given .1) (c .if3 .taken)
 
 sub-scale : tie.Need-sub-scale
@@ -72,9 +74,11 @@ add-t18 c = omega (arith, c .before .before .before .before .before .before .bef
 returns-6 : tie.Need-returns-6
 returns-6 c =
     let e = c .before .before .before .before .before .before in
-    with-part _ _ _ _ _ _ (sym (e .before .before .before .before .before .before .before .digits-at .ensures) ∙ e .before .before .before .before .before .w .given .1) (e .before .before .before .if1 .left) _ (e .before .before .scale .ensures .0)
-    (sym (e .before .leads .ensures) ∙ not-false _ (e .if2 .left))
-    _ _ (sym (c .before .before .before .before .before .digits-at2 .ensures) ∙ c .before .before .before .f .given .1) (c .before .if3 .left) _ (c .scale2 .ensures .0)
+    let d = e .before .before .before .before .before in
+    with-part _ _ _ _ _ _ (sym (d .before .before .digits-at .ensures) ∙ d .w .given .1) (e .before .before .before .if1 .left) _
+    (e .before .before .scale .ensures .0) (sym (e .before .leads .ensures) ∙ not-false _ (e .if2 .left))
+    _ _ (sym (c .before .before .before .before .before .digits-at2 .ensures) ∙ c .before .before .before .f .given .1) (c .before .if3 .left)
+    _ (c .scale2 .ensures .0)
 
 pub decimal-at-spec : {M : Type 1} → statement M
 decimal-at-spec =

@@ -1,4 +1,5 @@
--- `digits_at` meets its contract. The loop's invariant: `value` has as many digits as were taken, and the digits from `i` on, after `value`, give what all digits from `at` on give. The measure is what is left of the text.
+-- `digits_at` meets its contract. The loop's invariant: `value` has as many digits as were taken, and the digits from `i` on, after `value`, give
+-- what all digits from `at` on give. The measure is what is left of the text.
 use mathlib.Core.Path.{_≡_, sym, _∙_}
 use Prim.Native.Nat.{_-_, _^_, _≤_, _<_}
 use native.Mathlib.Nat.{sub-self, pos-of-ne-zero}
@@ -12,7 +13,8 @@ use Rattle.coordinates.proofs.scan.digits_at.Statement.{statement}
 use Rattle.coordinates.proofs.scan.digits_at.Tie as tie
 
 abbrev Inv-loop : tie.InvT-loop
-Inv-loop s at most value₀ left₀ i₀ value left i = (left ≤ most) × (value < 10 ^ (most - left)) × (runFrom left i value (drop i s) ≡ runOf most at (drop at s))
+Inv-loop s at most value₀ left₀ i₀ value left i =
+    (left ≤ most) × (value < 10 ^ (most - left)) × (runFrom left i value (drop i s) ≡ runOf most at (drop at s))
 
 abbrev μ-loop : tie.MeasureT-loop
 μ-loop s at most value₀ left₀ i₀ value left i = length s - i
@@ -24,11 +26,12 @@ returns c =
 
 returns-2 : tie.Need-returns-2 Inv-loop μ-loop
 returns-2 c =
-    sym (run-long _ _ _ _ (c .before .before .before .before .loop-test .taken) (sym (c .before .before .is-digit .ensures) ∙ not-false _ (c .before .if1 .left)) (c .if2 .taken))
-    ∙ c .before .before .before .before .before .loop .inv .2
+    let l = c .before .before .before .before in
+    sym (run-long _ _ _ _ (l .loop-test .taken) (sym (c .before .before .is-digit .ensures) ∙ not-false _ (c .before .if1 .left)) (c .if2 .taken))
+    ∙ l .before .loop .inv .2
 
 mul-value : tie.Need-mul-value Inv-loop μ-loop
-mul-value c = times-fits _ _ _ (c .before .before .before .before .before .before .before .pre) (c .before .before .before .before .before .loop .inv .1)
+mul-value c = let l = c .before .before .before .before .before in times-fits _ _ _ (l .before .before .pre) (l .loop .inv .1)
 
 sub-value : tie.Need-sub-value Inv-loop μ-loop
 sub-value c = digit-ge _ (sym (c .before .before .is-digit .ensures) ∙ not-false _ (c .before .if1 .left))
@@ -38,8 +41,8 @@ cast-value c = digit-fits _ (sym (c .before .before .is-digit .ensures) ∙ not-
 
 add-value : tie.Need-add-value Inv-loop μ-loop
 add-value c =
-    more-fits _ _ _ (c .before .before .before .before .before .before .before .pre) (c .before .before .before .before .before .loop .inv .1)
-    _ (sym (c .before .before .is-digit .ensures) ∙ not-false _ (c .before .if1 .left))
+    let l = c .before .before .before .before .before in
+    more-fits _ _ _ (l .before .before .pre) (l .loop .inv .1) _ (sym (c .before .before .is-digit .ensures) ∙ not-false _ (c .before .if1 .left))
 
 loop-again : tie.Need-loop-again Inv-loop μ-loop
 loop-again c =

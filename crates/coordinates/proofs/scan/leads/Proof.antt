@@ -1,4 +1,4 @@
--- `leads` meets its contract: within the text the byte at the place leads the rest, and past its end nothing does.
+-- `leads` meets its contract: within the text the byte at the offset leads the rest, and past its end nothing does.
 use mathlib.Core.Path.{sym}
 use borrow.Author.Needs.{needs}
 use Rattle.coordinates.proofs.Leading.{leads-at, leads-none}

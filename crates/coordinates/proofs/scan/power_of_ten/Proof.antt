@@ -7,7 +7,10 @@ use Rattle.coordinates.proofs.scan.power_of_ten.Tie as tie
 
 returns-8 : tie.Need-returns-8
 returns-8 c =
-    last-power _ (c .before .before .before .before .before .before .before .pre) (c .before .before .before .before .before .before .if1 .left) (c .before .before .before .before .before .if2 .left) (c .before .before .before .before .if3 .left) (c .before .before .before .if4 .left) (c .before .before .if5 .left) (c .before .if6 .left) (c .if7 .left)
+    let d = c .before .before .before in
+    let e = d .before .before .before in
+    last-power _ (e .before .pre) (e .if1 .left) (d .before .before .if2 .left) (d .before .if3 .left) (d .if4 .left)
+    (c .before .before .if5 .left) (c .before .if6 .left) (c .if7 .left)
 
 pub power-of-ten-spec : {M : Type 1} → statement M
 power-of-ten-spec =

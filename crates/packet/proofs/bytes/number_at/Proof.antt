@@ -1,4 +1,4 @@
--- `number_at` meets its contract. The loop's invariant: `n` is the number of the first `i` bytes, and below 256 ^ i. The measure is how many bytes are left.
+-- `number_at` meets its contract. The loop's invariant: `n` is the number of the first `i` bytes, and below 256 ^ i. The measure: how many are left.
 use mathlib.Core.Path.{_≡_, sym, ap, _∙_}
 use Prim.Native.Nat.{ℕ, _+_, _-_, _*_, _^_, _≤_, _<_}
 use native.Mathlib.Omega.{arith}
@@ -19,17 +19,17 @@ cast-n c = omega (arith, c .shared-slice-known .given (c .before .before .before
 
 add-n-2 : tie.Need-add-n-2 Inv-loop μ-loop
 add-n-2 c =
-    let place = c .before .before .before .args .at + c .before .before .loop .i in
-    more-fits _ _ _ (c .before .before .loop .inv .2) (omega (arith, c .shared-slice-known .given place)) (omega arith)
+    let offset = c .before .before .before .args .at + c .before .before .loop .i in
+    more-fits _ _ _ (c .before .before .loop .inv .2) (omega (arith, c .shared-slice-known .given offset)) (omega arith)
 
 loop-again : tie.Need-loop-again Inv-loop μ-loop
 loop-again c =
     let inv = c .before .before .loop .inv in
-    let place = c .before .before .before .args .at + c .before .before .loop .i in
-    let byte = getD (c .before .before .before .args .p .now) place 0 in (
+    let offset = c .before .before .before .args .at + c .before .before .loop .i in
+    let byte = getD (c .before .before .before .args .p .now) offset 0 in (
       omega arith,
       ap (λ (n : ℕ). n * 256 + byte) (inv .1) ∙ sym (number-more _ _ _ (omega arith)),
-      more-lt _ _ _ (inv .2) (omega (arith, c .shared-slice-known .given place)),
+      more-lt _ _ _ (inv .2) (omega (arith, c .shared-slice-known .given offset)),
     )
 
 returns : tie.Need-returns Inv-loop μ-loop

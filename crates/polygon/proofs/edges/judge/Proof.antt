@@ -5,7 +5,13 @@ use Rattle.polygon.proofs.edges.judge.Statement.{statement}
 use Rattle.polygon.proofs.edges.judge.Tie as tie
 
 returns : tie.Need-returns
-returns c = let g = c .before .before .before .before .before .before .before .before .before .args in counted (g .a) (g .b) (g .p) _ _ _ _ _ _ (c .before .before .before .before .before .before .before .before .east-of .ensures) (c .before .before .before .before .before .before .before .north-of .ensures) (c .before .before .before .before .before .before .is-less .ensures) (c .before .before .before .before .before .is-less2 .ensures) (c .before .before .before .before .in-box .ensures) (c .is-crossed .ensures) (c .before .before .before .struct-told .given .0 .1) (c .before .before .struct-told2 .given .0 .1) (c .before .struct-told3 .given .0 .1)
+returns c =
+    let d = c .before .before .before in
+    let e = d .before .before .before in
+    let g = e .before .before .before .args in
+    counted (g .a) (g .b) (g .p) _ _ _ _ _ _ (e .before .before .east-of .ensures) (e .before .north-of .ensures) (e .is-less .ensures)
+    (d .before .before .is-less2 .ensures) (d .before .in-box .ensures) (c .is-crossed .ensures) (d .struct-told .given .0 .1)
+    (c .before .before .struct-told2 .given .0 .1) (c .before .struct-told3 .given .0 .1)
 
 pub judge-spec : {M : Type 1} → statement M
 judge-spec =

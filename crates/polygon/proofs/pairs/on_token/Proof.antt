@@ -1,4 +1,4 @@
--- By the byte at the place; past the end nothing goes on.
+-- By the byte at the offset; past the end nothing goes on.
 use borrow.Author.Needs.{needs}
 use Rattle.polygon.proofs.Tokens.{on-at, on-past}
 use Rattle.polygon.proofs.pairs.on_token.Statement.{statement}

@@ -7,10 +7,12 @@ use Rattle.time.proofs.calendar.days_before_month.Statement.{statement}
 use Rattle.time.proofs.calendar.days_before_month.Tie as tie
 
 add-result : tie.Need-add-result
-add-result c = omega (arith, months-table (c .before .args .y) (c .before .args .m) (c .is-leap .result) (c .before .pre) (c .is-leap .ensures), months-le (c .before .args .y) (c .before .args .m - 1))
+add-result c =
+    let s = c .before .before in
+    omega (arith, months-table (s .pre) (s .args .y) (c .is-leap .result) (c .is-leap .ensures), months-le (s .args .y) (s .args .m - 1))
 
 pub days-before-month-spec : {M : Type 1} → statement M
 days-before-month-spec =
     tie.close
     (tie.spec (λ c. search needs) (λ c. search needs) (λ c κs. search needs) (λ c. search needs) add-result
-    (λ c. months-table _ _ _ (c .before .pre) (c .is-leap .ensures)))
+    (λ c. months-table (c .before .before .pre) _ _ (c .is-leap .ensures)))

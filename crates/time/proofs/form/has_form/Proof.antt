@@ -4,7 +4,7 @@ use Prim.Native.Nat.{_-_}
 use native.Mathlib.Omega.{arith}
 use borrow.Author.Needs.{needs}
 use lib.ListN.{length, drop}
-use Rattle.time.proofs.Written.{form-on, form-stop, form-end}
+use Rattle.time.proofs.Forms.{form-on, form-stop, form-end}
 use Rattle.time.specs.Time.{hasForm}
 use Rattle.time.proofs.form.has_form.Statement.{statement}
 use Rattle.time.proofs.form.has_form.Tie as tie
@@ -16,10 +16,14 @@ abbrev μ-loop : tie.MeasureT-loop
 μ-loop form text i₀ i = length form - i
 
 loop-again : tie.Need-loop-again Inv-loop μ-loop
-loop-again c = sym (form-on _ _ _ (c .before .before .before .before .loop-test .taken) (omega arith) (sym (c .before .is-form-byte .ensures) ∙ c .if1 .taken)) ∙ c .before .before .before .before .before .loop .inv
+loop-again c =
+    sym (form-on _ _ _ (c .before .before .before .before .loop-test .taken) (omega arith) (sym (c .before .is-form-byte .ensures) ∙ c .if1 .taken))
+    ∙ c .before .before .before .before .before .loop .inv
 
 returns : tie.Need-returns Inv-loop μ-loop
-returns c = sym (form-stop _ _ _ (c .before .before .before .before .loop-test .taken) (omega arith) (sym (c .before .is-form-byte .ensures) ∙ c .if1 .left)) ∙ c .before .before .before .before .before .loop .inv
+returns c =
+    sym (form-stop _ _ _ (c .before .before .before .before .loop-test .taken) (omega arith) (sym (c .before .is-form-byte .ensures) ∙ c .if1 .left))
+    ∙ c .before .before .before .before .before .loop .inv
 
 returns-2 : tie.Need-returns-2 Inv-loop μ-loop
 returns-2 c = sym (form-end _ _ _ (c .loop-test .left) (omega arith)) ∙ c .before .loop .inv

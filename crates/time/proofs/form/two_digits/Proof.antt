@@ -1,7 +1,7 @@
--- Both places lie within the text, and a byte's value is at most 207.
+-- Both bytes lie within the text, and a byte's value is at most 207.
 use native.Mathlib.Omega.{arith}
 use borrow.Author.Needs.{needs}
-use Rattle.time.proofs.Written.{two-digits}
+use Rattle.time.proofs.Forms.{two-digits}
 use Rattle.time.proofs.form.two_digits.Statement.{statement}
 use Rattle.time.proofs.form.two_digits.Tie as tie
 

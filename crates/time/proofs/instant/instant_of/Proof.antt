@@ -11,10 +11,12 @@ sub-result : tie.Need-sub-result
 sub-result c = since-fits (c .before .args .t) (c .before .pre) _ (c .local-seconds .ensures)
 
 sub-result-2 : tie.Need-sub-result-2
-sub-result-2 c = instant-fits (c .before .before .args .t) (c .before .before .pre) _ (c .before .local-seconds .ensures) _ (c .offset .ensures) (c .offset .ok)
+sub-result-2 c =
+    instant-fits (c .before .before .args .t) (c .before .before .pre) _ (c .before .local-seconds .ensures) _ (c .offset .ensures) (c .offset .ok)
 
 returns : tie.Need-returns
-returns c = instant-is (c .before .before .args .t) (c .before .before .pre) _ (c .before .local-seconds .ensures) _ (c .offset .ensures) (c .offset .ok)
+returns c =
+    instant-is (c .before .before .args .t) (c .before .before .pre) _ (c .before .local-seconds .ensures) _ (c .offset .ensures) (c .offset .ok)
 
 pub instant-of-spec : {M : Type 1} → statement M
 instant-of-spec = tie.close (tie.spec (λ c κs. search needs) cast-result sub-result (λ c κs. search needs) sub-result-2 returns)

@@ -3,22 +3,21 @@ use mathlib.Core.Path.{_≡_, refl, ap}
 use mathlib.Core.Bool.{true, false, false≢true}
 use mathlib.Core.List.{List, [], _∷_}
 use Prim.Native.Nat.{ℕ, suc, _+_, _*_, _≤_, _<_}
-use Prim.Native.Char.{code}
 use native.Mathlib.Numerals.{add-one}
 use native.Mathlib.Omega.{arith}
-use lib.Dec.{eqb}
 use lib.ListN.{length, getD, drop, drop-of-length-le}
 use lib.Seq.{drop-cons}
 use Rattle.text.specs.Bytes.{numberFrom}
 use Rattle.text.specs.Logic.{and-right}
-use Rattle.time.specs.declared.Stamp.{Stamp}
 use Rattle.time.specs.Digits.{digitValue}
-use Rattle.time.specs.Time.{isFormByte, hasForm, digitsAt, stampOf}
+use Rattle.time.specs.Time.{isFormByte, hasForm, digitsAt}
 
 -- ---- the form
 
 module _ (f l : List ℕ) (i : ℕ) where
-  pub form-on : i < length f → i < length l → isFormByte (getD f i 0) (getD l i 0) ≡ true → hasForm (drop i f) (drop i l) ≡ hasForm (drop (i + 1) f) (drop (i + 1) l)
+  pub form-on :
+      i < length f → i < length l → isFormByte (getD f i 0) (getD l i 0) ≡ true
+      → hasForm (drop i f) (drop i l) ≡ hasForm (drop (i + 1) f) (drop (i + 1) l)
   unfolding hasForm
   form-on h g e = rw (drop-cons f i 0 h, drop-cons l i 0 g, e, add-one i)
 
@@ -40,7 +39,8 @@ form-length (a ∷ f) (b ∷ l) e = ap suc (form-length f l (and-right (isFormBy
 
 -- ---- digits
 
-pub two-digits : (l : List ℕ) (i a b : ℕ) → i + 1 < length l → a ≡ digitValue (getD l i 0) → b ≡ digitValue (getD l (i + 1) 0) → 10 * a + b ≡ digitsAt i 2 l
+pub two-digits :
+    (l : List ℕ) (i a b : ℕ) → i + 1 < length l → a ≡ digitValue (getD l i 0) → b ≡ digitValue (getD l (i + 1) 0) → 10 * a + b ≡ digitsAt i 2 l
 unfolding numberFrom
 two-digits l i a b h p q = rw (p, q, drop-cons l i 0 (omega arith), add-one i, drop-cons l (suc i) 0 (rw (add-one i) at h)) (omega arith)
 
@@ -52,13 +52,3 @@ four-digits (a ∷ []) h = absurd (omega arith)
 four-digits (a ∷ b ∷ []) h = absurd (omega arith)
 four-digits (a ∷ b ∷ c ∷ []) h = absurd (omega arith)
 four-digits (a ∷ b ∷ c ∷ d ∷ l) h = omega arith
-
--- ---- the stamp
-
-pub stamp-is :
-    (l : List ℕ) (y1 y2 mo d h mi s oh om : ℕ) → 3 < length l
-    → y1 ≡ digitsAt 0 2 l → y2 ≡ digitsAt 2 2 l → mo ≡ digitsAt 5 2 l → d ≡ digitsAt 8 2 l
-    → h ≡ digitsAt 11 2 l → mi ≡ digitsAt 14 2 l → s ≡ digitsAt 17 2 l → oh ≡ digitsAt 20 2 l → om ≡ digitsAt 23 2 l
-    → _≡_ {A = Stamp} (record { year = 100 * y1 + y2; month = mo; day = d; hour = h; minute = mi; second = s; west = eqb (getD l 19 0) (code "-"); «offset_hour» = oh; «offset_minute» = om }) (stampOf l)
-unfolding stampOf
-stamp-is l y1 y2 mo d h mi s oh om n e1 e2 e3 e4 e5 e6 e7 e8 e9 = rw (e1, e2, e3, e4, e5, e6, e7, e8, e9, four-digits l n)
