@@ -1,9 +1,8 @@
 -- A writer that is lent the part of a buffer from an offset on. `midOf` and `putMid` are what the checker calls a lent part, and the buffer with it
 -- put back.
 use mathlib.Core.Path.{_≡_, refl, sym, ap, subst, _∙_}
-use mathlib.Core.Bool.{cond}
 use mathlib.Core.List.{List, [], _∷_, _++_, append-nil}
-use Prim.Native.Nat.{ℕ, zero, suc, _+_, _-_, _≤_, _<_, suc-le-suc}
+use Prim.Native.Nat.{ℕ, zero, suc, _+_, _-_, _≤_, suc-le-suc}
 use native.Mathlib.Nat.{le-of-suc-le-suc, not-suc-le-zero, zero-add, suc-add}
 use native.Mathlib.Omega.{arith}
 use lib.Dec.{ltb}
@@ -12,7 +11,7 @@ use lib.Seq.{take-all}
 use borrow.Author.Tests.{ltb-true, ltb-false, lt-ltb, le-ltb}
 use borrow.Rule.Slice.PartMut.{putMid, midOf}
 use Rattle.text.specs.Logic.{by-test, cond-cases}
-use Rattle.buffer.specs.Cursor.{Cursor, cursor, putByte, putText, Put, PutAll}
+use Rattle.buffer.specs.Cursor.{Cursor, cursor, putByte, putText, Put}
 
 -- ---- a buffer stays as long as it is, and an offset within it stays within it
 

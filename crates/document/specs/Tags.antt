@@ -1,4 +1,4 @@
--- Tags, each judged in the order 15, 16, 14, and the text after a leaf's start tag, judged in the order 15, 14, 19, 17, 18, 22.
+-- Tags, each tested in the order 15, 16, 14, and the text after a leaf's start tag, tested in the order 15, 14, 19, 17, 18, 22.
 use mathlib.Core.Bool.{Bool, cond, not, _&&_, _||_}
 use mathlib.Core.List.{List, [], _∷_, _++_}
 use Prim.Native.Nat.{ℕ, zero, suc, _+_}

@@ -17,7 +17,7 @@ pub struct Checked {
     pub entry: Entry,
 }
 
-// The last clock at which a packet is judged: 2^64 - 65,536.
+// The last clock at which a packet is taken: 2^64 - 65,536.
 const LAST_CLOCK: u64 = 18_446_744_073_709_486_080;
 
 // Whether a key is in a list.

@@ -1,4 +1,4 @@
--- The judgement of an edge, from what its callees give.
+-- What an edge says of a place, from what its callees give.
 use mathlib.Core.Path.{_≡_, _∙_}
 use mathlib.Core.Bool.{Bool, not, _&&_}
 use Prim.Native.Nat.{_<_}

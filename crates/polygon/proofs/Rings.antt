@@ -61,7 +61,7 @@ plus-assoc a b c = rw (or-assoc (a .on) (b .on) (c .on), xor-assoc (a .crossed) 
 
 -- ---- the edges
 
--- what the edges say together, after edges that said `sum`, of a ring that goes on from a; nothing more where none is judged
+-- what the edges say together, after edges that said `sum`, of a ring that goes on from a; nothing more where none is counted
 unfoldable ringWith : Bool → Place → Place → Tally → List Place → Tally
 ringWith j p a sum [] = sum
 ringWith j p a sum (b ∷ l) = ringWith j p b (tallied j p sum a b) l
@@ -149,7 +149,7 @@ module _ (p : Place) (l : List ℕ) where
   whole-none true n k h = rw (none-whole n k h)
   whole-none false n k h = rw (none-whole n k h)
 
--- ---- whether there is a polygon, from the answer that judges no edge
+-- ---- whether there is a polygon, from the answer that counts no edge
 
 module _ (l : List ℕ) where
   pub answer-fault : cond (isPolygon l) Outside Fault ≡ Fault → false ≡ isPolygon l

@@ -27,6 +27,6 @@ edgeOf a b p = record { on = onEdge a b p; crossed = crosses a b p }
 abbrev pub plusOf : Tally → Tally → Tally
 plusOf a b = record { on = a .on || b .on; crossed = not (Bool·beq (a .crossed) (b .crossed)) }
 
--- the edge from a to b too, where edges are judged
+-- the edge from a to b too, where edges are counted
 abbrev pub tallied : Bool → Place → Tally → Place → Place → Tally
 tallied counted p sum a b = cond counted (plusOf sum (edgeOf a b p)) sum

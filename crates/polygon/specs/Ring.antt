@@ -17,7 +17,7 @@ closes n first last = leb 4 n && samePlace first last
 abbrev pub verdictOf : Bool → Tally → Inclusion
 verdictOf polygon sum = cond polygon (cond (sum .on || sum .crossed) Inside Outside) Fault
 
--- the answer for a text; where no edge is judged, every polygon is answered alike
+-- the answer for a text; where no edge is counted, every polygon is answered alike
 abbrev pub answerOf : Bool → List ℕ → Place → Inclusion
 answerOf true l p = polygonHolds l p
 answerOf false l p = cond (isPolygon l) Outside Fault

@@ -81,7 +81,7 @@ fn is_crossed(a: i32, b: i32, z: i32, less: bool, more: bool) -> bool
 }
 
 // What the edge from a to b says of the place p.
-fn judge(a: Place, b: Place, p: Place) -> Tally
+fn edge_of(a: Place, b: Place, p: Place) -> Tally
     ensures { λ r. ⌜ r ≡ edgeOf a b p ⌝ }
 {
     let east = east_of(a, b, p);
@@ -102,12 +102,12 @@ fn plus(a: Tally, b: Tally) -> Tally
     Tally { on, crossed }
 }
 
-// The sum of what edges say of the place p, with the edge from a to b; the same sum where no edge is judged.
+// The sum of what edges say of the place p, with the edge from a to b; the same sum where no edge is counted.
 pub fn add_edge(counted: bool, sum: Tally, a: Place, b: Place, p: Place) -> Tally
     ensures { λ r. ⌜ r ≡ tallied counted p sum a b ⌝ }
 {
     if !counted {
         return sum;
     }
-    plus(sum, judge(a, b, p))
+    plus(sum, edge_of(a, b, p))
 }

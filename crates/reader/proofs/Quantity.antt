@@ -1,4 +1,4 @@
--- A number is read at the rest m of a text: s is what stands after a literal of k bytes, and h what is heard there.
+-- A number is read at the rest m of a text: s is what stands after a literal of k bytes, and h what is read there.
 use mathlib.Core.Path.{_≡_}
 use mathlib.Core.List.{List}
 use Prim.Native.Nat.{ℕ}

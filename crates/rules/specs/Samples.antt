@@ -3,7 +3,7 @@ use mathlib.Core.Path.{_≡_, refl}
 use mathlib.Core.List.{List}
 use Prim.Native.Nat.{ℕ}
 use Rattle.text.specs.Ascii.{ascii}
-use Rattle.text.specs.Bytes.{spaces, allSpace, digits, numberFrom}
+use Rattle.text.specs.Bytes.{numberFrom}
 use Rattle.text.specs.Tokens.{onToken, longer, tokens}
 use Rattle.time.specs.Calendar.{daysOfYears, daysOfMonths}
 use Rattle.time.specs.Time.{hasForm, stampOf, isStamp, localSeconds, epoch, offset, instantOf, stampTime, timeOf}

@@ -102,7 +102,7 @@ pub record Samples : Type 0 where
       × (checkOf (start ++ ascii "x") ≡ Refused 15 52)
       × (checkOf (start ++ ascii "<![CDATA[x]]>") ≡ Refused 15 52)
       × (checkOf (start ++ head ++ end ++ ascii "<x>") ≡ Refused 15 223)
-  -- a text is judged up to the next "<", at the byte after its start tag: no code; cut by a comment; empty before a comment; an empty tag
+  -- a text is tested up to the next "<", at the byte after its start tag: no code; cut by a comment; empty before a comment; an empty tag
   pub sample-texts :
       (checkOf (start ++ front ++ ascii "<status>Bad<") ≡ Refused 17 155)
       × (checkOf (start ++ front ++ ascii "<status>Act<!-- c -->ual</status>") ≡ Refused 17 155)

@@ -10,7 +10,7 @@ use lib.Seq.{drop-append-add, take-at, drop-at, drop-drop, length-take-le}
 use borrow.Author.Tests.{leb-true, le-leb, lt-leb}
 use Rattle.buffer.specs.Writing.{written}
 use Rattle.text.specs.Logic.{by-test, and-left, and-right}
-use Rattle.sheet.specs.declared.WriteSheet.the-variants.{End, OutOfRange, NoRoom}
+use Rattle.sheet.specs.declared.WriteSheet.the-variants.{End, OutOfRange}
 use Rattle.sheet.specs.Sheet.{Sheet, inRange}
 use Rattle.sheet.specs.Sentence.{sentence}
 use Rattle.sheet.specs.Answers.{hasRoom, isWritable, writeSheet, after}

@@ -1,7 +1,7 @@
 -- Demand 3 of the request, stated over the definitions that the contracts of the writer and the reader name: any list of sheets, any
 -- buffer, any start. proofs/Demand3.antt proves it.
 use mathlib.Core.Path.{_≡_}
-use mathlib.Core.Bool.{Bool, true, false, cond, _&&_}
+use mathlib.Core.Bool.{Bool, true, cond, _&&_}
 use mathlib.Core.List.{List, [], _∷_, _++_}
 use mathlib.Core.Logic.{_⊎_}
 use Prim.Native.Nat.{ℕ, suc, _+_, _-_, _<_, _≤_}

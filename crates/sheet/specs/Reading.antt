@@ -1,8 +1,8 @@
 -- Reading a sentence. It is read loosely first: literals are passed over by their length, and nothing is checked. The text is a read-back exactly
 -- where it starts with the sentence of what was read, and that is in range; proofs/ has the laws that make this reading exact.
-use mathlib.Core.Bool.{Bool, true, false, cond, _&&_, not}
+use mathlib.Core.Bool.{Bool, cond, _&&_, not}
 use mathlib.Core.List.{List, [], _∷_, _++_}
-use Prim.Native.Nat.{ℕ, zero, suc, _+_, _-_, _%_}
+use Prim.Native.Nat.{ℕ, _+_, _-_, _%_}
 use Prim.Native.Char.{code}
 use lib.Dec.{eqb}
 use lib.ListN.{length, take, drop, getD}

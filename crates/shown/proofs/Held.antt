@@ -3,7 +3,7 @@
 --     reads, walk-reads        the routine that returns the first field of the facts, and its walk
 --     passes, walk-passes      the routine that passes both fields on to f and returns what that returns, and its walk
 -- Assumes `Given`.
-use Rattle.walks.proofs.Walk.{refl, _∷_, [], List, URA, Holds, Name, Sym, Ty, tyStruct, tcons, tnil, valueLocal, place, field, copy, rvOpd, assign}
+use Rattle.walks.proofs.Walk.{refl, _∷_, [], URA, Holds, Name, Sym, Ty, tyStruct, tcons, tnil, valueLocal, place, field, copy, rvOpd, assign}
 use Rattle.walks.proofs.Walk.{call, return, seq, Fn, Val, WT, hasTy, vstruct, ofList}
 use Rattle.walks.proofs.Walk.{SProp, ent, guard, id⊢, Heap, Tables, WpFn, Atoms, Given, raw, given, later, learn, await, _$_, _∵_, !, qed, by, move}
 use Rattle.walks.proofs.Walk.{use1, whole, sub, look-in, load, from, fld, stop, of-opd, and-then, no-more, fmOf, calls-from}

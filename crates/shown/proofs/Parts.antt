@@ -2,12 +2,12 @@
 -- handed on.
 --     handed f         the routine that calls f.        meets        it meets c where f meets c₁ and what c₁ ensures is what c ensures
 -- Assumes `Given`.
-use Rattle.walks.proofs.Walk.{_≡_, refl, _∷_, [], ℕ, List, length, URA, named, Name, Ty, Fn, Val, SProp, ent, emp, via, id⊢, guardI, Heap, Tables}
+use Rattle.walks.proofs.Walk.{_≡_, refl, _∷_, [], ℕ, List, length, URA, named, Name, Ty, Fn, Val, ent, emp, via, id⊢, guardI, Heap, Tables}
 use Rattle.walks.proofs.Walk.{WpFn, Atoms, Lfts, Given, Item, mean, raw, ‵, _⊛_, given}
 use Rattle.walks.proofs.Walk.{some, learn, pick, suffices, done, _$_, _∵_, !, qed, move, keep, drop, split, join, use0, use1, fsplit, Is, shows}
 use Rattle.walks.proofs.Walk.{peeks, RefT, sliceVal, ShrSlice, shr-slice-lawful, u8, owns, namedLft, RattleType}
 use Rattle.walks.proofs.Walk.{Triple, Vals, alive, onEntry, Clauses, ensured, lasts, atExit, closing, tripleOf, Meets, Stays, walkOf, ends-at}
-use Rattle.walks.proofs.Types.{Spelled, struct}
+use Rattle.walks.proofs.Types.{Spelled}
 use Rattle.walks.proofs.Walked.{nothings, had, drops, all-drop, met}
 use mir.Syntax.{Lifetime, erased, imm, w8, tyInt, tyRef}
 use denote.Slice.{sliceTy}

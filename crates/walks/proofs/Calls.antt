@@ -14,7 +14,7 @@ use mir.Val.{Val}
 use base.Logic.{SProp, ent, sep, emp, via, id⊢, emp∗, comm∗, mono∗, monoR}
 use base.Fml.{Fml, fsep}
 use prog.Wp.{Heap, Env, Tables}
-use ghost.Atoms.{Atoms, sem}
+use ghost.Atoms.{Atoms}
 use contract.Monad.{fact, factI, fact-use}
 use contract.Lifetimes.{Lfts, Shares, AllOutlive}
 use sound.WpLaws.{fmOf}

@@ -4,7 +4,7 @@
 --     counted          the same for a loop in a block, with the code that follows it
 --     tests            a turn's test: it goes on, or it leaves.        when     code that runs only where a test holds
 -- Assumes `Given`.
-use mathlib.Core.Path.{_≡_, sym, subst}
+use mathlib.Core.Path.{_≡_, subst}
 use Prim.Native.Nat.{ℕ, zero, suc, _+_, _<_}
 use native.Mathlib.Nat.{lt-suc-self, lt-irrefl, zero-add}
 use native.Mathlib.Omega.{arith}
@@ -20,7 +20,7 @@ use prog.Wp.{Heap, Out, next, exits, Env, afterSeq, afterBlock, afterTurn, Calls
 use ghost.Atoms.{Atoms}
 use sound.Laws.{Laws}
 use sound.Loop.{loop-rule}
-use types.Kit.{Given, Item, ⋆, Post, anyQ, post, prop, runs, Seq, Step, step, _$_}
+use types.Kit.{Given, Item, ⋆, Post, anyQ, post, prop, runs, Seq, step, _$_}
 use types.Run.{Opd, first, branches, skips, jumps}
 
 module _ {M : Type 1} (𝓤 : URA M) (H : Heap 𝓤) (L : Laws 𝓤 H) (𝓣 : Tables 𝓤 H) (E : Env 𝓤 H) (turn : Body) (Left : Out → SProp 𝓤) (At : ℕ → SProp 𝓤)

@@ -10,7 +10,7 @@ use sheet::Parts;
 use sheet::Span;
 use sheet::WarnFacts;
 ghost use mathlib.Core.Path.{_≡_};
-ghost use mathlib.Core.Bool.{true, cond};
+ghost use mathlib.Core.Bool.{true};
 ghost use Prim.Native.Nat.{_<_};
 ghost use Rattle.codes.specs.Lists.{isNumber};
 ghost use Rattle.warnbox.specs.Numbers.{isFlag, hasNoPart, arePart, areCap, lastingFrom, partFrom, capFrom, senderFrom, nameFrom};

@@ -1,4 +1,4 @@
--- The walk that judges no edge has an answer exactly for a polygon.
+-- The walk that counts no edge has an answer exactly for a polygon.
 use mathlib.Core.Path.{sym, _∙_}
 use borrow.Author.Needs.{needs}
 use Rattle.text.specs.Logic.{clash}

@@ -1,4 +1,4 @@
--- Invariant: after the places read and the edges judged, the tokens that are left say what the whole text says of the place; and there are at most as
+-- Invariant: after the places read and the edges counted, the tokens that are left say what the whole text says of the place; and there are at most as
 -- many places as bytes passed.
 use mathlib.Core.Path.{_≡_, sym, _∙_}
 use Prim.Native.Nat.{_-_, _≤_}

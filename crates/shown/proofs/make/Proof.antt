@@ -1,6 +1,6 @@
 -- `shown::make` meets its contract: a `ShownSheet` is made of the slice and the facts passed, and what these own is what it owns.
 -- Assumes nothing.
-use Rattle.walks.proofs.Walk.{refl, _∷_, [], length, URA, named, Val, SProp, Memory, Routine, Heap, WpFn, Tables, Atoms, Fun, factI, emp, givenOf}
+use Rattle.walks.proofs.Walk.{refl, _∷_, [], length, URA, named, SProp, Memory, Routine, Heap, WpFn, Tables, Atoms, Fun, factI, emp, givenOf}
 use Rattle.walks.proofs.Walk.{tables, tablesOf, Given, ‵, raw, _$_, _∵_, !, qed, move, join, done, suffices, use0, use1}
 use Rattle.walks.proofs.Walk.{agg, and-then, no-more, sliceVal, owns, typesAt, u8, namedLft, tripleOf, Meets, entered, Stays, Vals, alive, atExit}
 use Rattle.walks.proofs.Walk.{ends-at}

@@ -1,4 +1,4 @@
--- The text's form is judged first, then its rule.
+-- The text's form is tested first, then its rule.
 use borrow.Author.Needs.{needs}
 use Rattle.document.proofs.elements.text_step.Statement.{statement}
 use Rattle.document.proofs.elements.text_step.Tie as tie

@@ -1,11 +1,11 @@
 -- `accept` meets its contract: a walk of its MIR, by hand. The slice is opened once, and its entries are lent for the call of `scan`. `decide` says
 -- what is stored and where; where that index is one of the entries it is stored, and the slice is closed.
 -- Assumes nothing.
-use Rattle.walks.proofs.Walk.{_≡_, refl, sym, ap, _∷_, [], ℕ, _*_, _<_, List, length, set, URA, fullShare, named, w32, w64, Val, Fits, vint, SProp}
+use Rattle.walks.proofs.Walk.{_≡_, refl, ap, _∷_, [], ℕ, _*_, _<_, List, length, set, URA, fullShare, named, w32, w64, Val, Fits, vint, SProp}
 use Rattle.walks.proofs.Walk.{emp, id⊢, Memory, Routine, Heap, WpFn, Tables, Atoms}
 use Rattle.walks.proofs.Walk.{Fun, factI, givenOf, tables, tablesOf, Given, ‵, _⊛_, _$_, _∵_, !, Go, Seq, runs, atRet, Env, qed, by, move, join}
 use Rattle.walks.proofs.Walk.{rewrite, whole, sub, look-in, agg, lit, bin, addr, of-opd, look, load, store-raw, assigns-last, forget}
-use Rattle.walks.proofs.Walk.{from, fld, hop, stop, and-then, no-more, Is, RefT, now, sliceVal, owns, typesAt, flft, ftrue, Triple, Vals, tripleOf}
+use Rattle.walks.proofs.Walk.{from, fld, hop, stop, and-then, no-more, Is, now, sliceVal, owns, typesAt, flft, ftrue, Triple, Vals, tripleOf}
 use Rattle.walks.proofs.Walk.{Meets, entered, cited, Stays, stay-slice, goes-slice, walkOf, plain, u32, scaled-fits, ltb→lt, nltb→le, RattleType}
 use Rattle.walks.proofs.Locals.{empty, holds, envOf, frame, enters, leaves}
 use Rattle.walks.proofs.Types.{number, mutable, typed}

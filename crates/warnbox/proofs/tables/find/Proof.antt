@@ -1,6 +1,6 @@
 -- `find` meets its contract: a walk of its MIR, by hand. `scan` is called on the slice, and `position` on what it found.
 -- Assumes nothing.
-use Rattle.walks.proofs.Walk.{_≡_, refl, _∙_, _∷_, [], ℕ, List, length, URA, w32, w64, Val, vint, SProp, ent, id⊢, Memory, Routine, Heap, WpFn}
+use Rattle.walks.proofs.Walk.{_≡_, refl, _∷_, [], List, length, URA, w32, w64, Val, vint, SProp, id⊢, Memory, Routine, Heap, WpFn}
 use Rattle.walks.proofs.Walk.{Tables, Atoms, Fun, factI, givenOf, tables, tablesOf}
 use Rattle.walks.proofs.Walk.{Given, raw, _$_, _∵_, !, qed, move, drop, by, whole, sub, of-opd, and-then, no-more, now, sliceVal}
 use Rattle.walks.proofs.Walk.{Triple, Vals, onEntry, tripleOf, Meets, entered, cited, Stays, emp, named}
@@ -11,7 +11,6 @@ use Rattle.walks.proofs.Calls.{calls-equal, calls-plain}
 use Rattle.walks.proofs.Walked.{drops, all-drop, had, ends-free, met}
 use Rattle.events.specs.declared.Entry.{Entry}
 use Rattle.events.specs.declared.plans.Candidates.{Candidates}
-use Rattle.events.specs.Table.{positionOf}
 use Rattle.events.specs.Steps.{scanned, positionIn}
 use Rattle.events.proofs.Outcomes.{position-is}
 use Rattle.events.proofs.Entry as T

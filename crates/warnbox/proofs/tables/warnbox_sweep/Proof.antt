@@ -1,11 +1,11 @@
 -- `warnbox_sweep` meets its contract: a walk of its MIR, by hand. The slice is opened once; each turn takes an element out, calls `sweep_entry` and
 -- puts its result there; after the loop the slice is closed.
 -- Assumes nothing.
-use Rattle.walks.proofs.Walk.{_≡_, refl, sym, subst, _∷_, [], ℕ, _+_, _*_, _<_, List, length, getD, set, URA, fullShare, named, w64, Val, Fits, vint}
+use Rattle.walks.proofs.Walk.{refl, sym, subst, _∷_, [], ℕ, _+_, _*_, _<_, List, length, getD, URA, fullShare, named, w64, Val, Fits, vint}
 use Rattle.walks.proofs.Walk.{SProp, emp, id⊢, Memory, Routine, Heap, WpFn, Tables, Atoms}
-use Rattle.walks.proofs.Walk.{Fun, factI, givenOf, tables, tablesOf, Given, Item, raw, ‵, _⊛_, _$_, _∵_, !, qed, by, move, drop, rewrite, atRet}
+use Rattle.walks.proofs.Walk.{Fun, factI, givenOf, tables, tablesOf, Given, ‵, _⊛_, _$_, _∵_, !, qed, by, move, rewrite}
 use Rattle.walks.proofs.Walk.{whole, sub, lit, bin, of-opd, look, look-raw, load, store, store-raw}
-use Rattle.walks.proofs.Walk.{assigns, assigns-last, forget, exec, unit-lit, from, hop, stop, and-then, no-more, now, sliceVal, owns, typesAt, flft}
+use Rattle.walks.proofs.Walk.{assigns, assigns-last, forget, unit-lit, from, hop, stop, and-then, no-more, now, sliceVal, owns, typesAt, flft}
 use Rattle.walks.proofs.Walk.{ftrue, Triple, Vals, tripleOf, Meets, entered, cited, Stays, stay-slice, goes-slice, plain, arith, scaled-fits, ltb→lt}
 use Rattle.walks.proofs.Walk.{nltb→le, RattleType}
 use Rattle.walks.proofs.Locals.{empty, holds, envOf, frame, enters, leaves}
