@@ -132,8 +132,14 @@ isStale time e = e .used && ltb (e .«keep_until») time
 
 abbrev pub swept : ℕ → Entry → Entry
 swept time e =
-    cond (isStale time e) (record { used = false; key = e .key; event = e .event; sequence = e .sequence; cancelled = e .cancelled;
-    «keep_until» = e .«keep_until» }) e
+    cond (isStale time e) (record {
+      used = false;
+      key = e .key;
+      event = e .event;
+      sequence = e .sequence;
+      cancelled = e .cancelled;
+      «keep_until» = e .«keep_until»;
+    }) e
 
 unfoldable pub sweptAll : ℕ → List Entry → List Entry
 sweptAll time [] = []

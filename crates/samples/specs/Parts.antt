@@ -105,8 +105,14 @@ kiln =
       status = status.Actual;
       scope = scope.Public;
       parts =
-          OnePart (record { number = 1; total = 1; urgency = urgency.Immediate; severity = severity.Extreme; certainty = certainty.Observed;
-          lasting = Seconds 900 });
+          OnePart (record {
+            number = 1;
+            total = 1;
+            urgency = urgency.Immediate;
+            severity = severity.Extreme;
+            certainty = certainty.Observed;
+            lasting = Seconds 900;
+          });
     })
     (record { start = 88; len = 12 })
     (record { start = 64; len = 3 })

@@ -92,9 +92,13 @@ module _ (xs : List Sheet) (v : allInRange xs ≡ true) where
       let n = founds-length 0 xs in
       record {
         count = all-count;
-        each = λ k z h.
-            (getD (founds 0 xs) k f, (all-pick k ∙ pick-some (length xs) (founds 0 xs) k f (rw n h),
-            founds-sheet (sentences xs) 0 xs k f z refl v h));
+        each = λ k z h. (
+          getD (founds 0 xs) k f,
+          (
+            all-pick k ∙ pick-some (length xs) (founds 0 xs) k f (rw n h),
+            founds-sheet (sentences xs) 0 xs k f z refl v h,
+          ),
+        );
         past = λ k h. all-pick k ∙ pick-none (length xs) (founds 0 xs) k (rw n h);
       }
 

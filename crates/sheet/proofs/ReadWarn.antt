@@ -100,9 +100,13 @@ numbers-read x t v =
       hazards =
           ap (λ (y : List ℕ). numbersAfter hazardNames (drop (durationAt 0 y .end) y)) f
           ∙ ap (numbersAfter hazardNames) (after-duration (x .lasting) w d refl)
-          ∙ numbers-after hazardNames (hazardNumbers x) (ascii ".\n" ++ t) refl
-          (omega (arith, v .hazard), (omega (arith, v .kind),
-          (omega (arith, v .urgency), (omega (arith, v .severity), (omega (arith, v .certainty), (omega (arith, v .response), tt))))))
+          ∙ numbers-after hazardNames (hazardNumbers x) (ascii ".\n" ++ t) refl (
+            omega (arith, v .hazard),
+            (
+              omega (arith, v .kind),
+              (omega (arith, v .urgency), (omega (arith, v .severity), (omega (arith, v .certainty), (omega (arith, v .response), tt)))),
+            ),
+          )
           (ends-stop (ascii "\n" ++ t)) .0;
     }
 

@@ -24,8 +24,14 @@ kilnAlert =
       status = status.Actual;
       scope = scope.Public;
       parts =
-          OnePart (record { number = 1; total = 1; urgency = urgency.Immediate; severity = severity.Extreme; certainty = certainty.Observed;
-          lasting = Seconds 900 });
+          OnePart (record {
+            number = 1;
+            total = 1;
+            urgency = urgency.Immediate;
+            severity = severity.Extreme;
+            certainty = certainty.Observed;
+            lasting = Seconds 900;
+          });
     })
     (ascii "kiln.example")
     (ascii "A17")

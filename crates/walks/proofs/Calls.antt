@@ -91,12 +91,28 @@ module _ {M : Type 1} {𝓤 : URA M} {H : Heap 𝓤} {A : Atoms 𝓤} {K : Type 
       (valss (typesAt (T .signature .params) κs) (spells (typesAt (T .signature .params) κs) (spelleds (typesAt (T .signature .params) κs) ps)) a)
       → (p : Plain (typeAt (T .signature .result) κs)) (x : Res (T .signature) κs)
       → ((r : Res (T .signature) κs) (ws : Lasts T κs a) → ent 𝓤 (c κs a .ensures g r (atExit T κs a ws)) (fact 𝓤 (r ≡ x)))
-      → Opds K W (raw (tripleOf 𝓤 H A (T .signature) (closing 𝓤 H A T c) .pre
-      ((κs, qs, b, a, valss (typesAt (T .signature .params) κs)
-      (spells (typesAt (T .signature .params) κs) (spelleds (typesAt (T .signature .params) κs) ps)) a), g)) ∷ Γ) E xs
-      (tripleOf 𝓤 H A (T .signature) (closing 𝓤 H A T c) .args
-      ((κs, qs, b, a, valss (typesAt (T .signature .params) κs)
-      (spells (typesAt (T .signature .params) κs) (spelleds (typesAt (T .signature .params) κs) ps)) a), g))
+      → Opds K W (raw (tripleOf 𝓤 H A (T .signature) (closing 𝓤 H A T c) .pre (
+        (
+          κs,
+          qs,
+          b,
+          a,
+          valss (typesAt (T .signature .params) κs)
+              (spells (typesAt (T .signature .params) κs) (spelleds (typesAt (T .signature .params) κs) ps)) a,
+        ),
+        g,
+      )) ∷ Γ) E xs
+      (tripleOf 𝓤 H A (T .signature) (closing 𝓤 H A T c) .args (
+        (
+          κs,
+          qs,
+          b,
+          a,
+          valss (typesAt (T .signature .params) κs)
+              (spells (typesAt (T .signature .params) κs) (spelleds (typesAt (T .signature .params) κs) ps)) a,
+        ),
+        g,
+      ))
       → (Is (typeAt (T .signature .result) κs) x (p .spelled .val x ∷ []) → Seq K W Γ (lands (𝓣 .C) (𝓣 .Λ) E d (p .spelled .val x) rest q))
       → Seq K W Γ (runs (𝓣 .C) (𝓣 .Λ) E (seq (call f xs d) rest) q)
   calls-plain t 𝓣 T c known κs qs b a g al req ps are p x said os k =

@@ -15,9 +15,11 @@ returns-2 c =
     (c .before .before .put-lines .ensures)
 
 put-lines-requires-2 : tie.Need-put-lines-requires-2
-put-lines-requires-2 c κs =
-    (omega arith, check-limit _ _ (sym (c .before .before .before .before .before .check-document .ensures)
-    ∙ c .before .before .before .checked2 .given .1))
+put-lines-requires-2 c κs = (
+  omega arith,
+  check-limit _ _ (sym (c .before .before .before .before .before .check-document .ensures)
+      ∙ c .before .before .before .checked2 .given .1),
+)
 
 returns-3 : tie.Need-returns-3
 returns-3 c =

@@ -16,8 +16,10 @@ returns-2 : tie.Need-returns-2
 unfolding codeRule
 returns-2 c =
     let t = c .before .before .before .before .args .t .now in
-    rw (sym (c .before .code-of .ensures ∙ ap (λ l. list.codeOf l t) (c .before .before .list-of .ensures)),
-    ne-eqb (c .before .code-of .result) 0 (c .if1 .left))
+    rw (
+      sym (c .before .code-of .ensures ∙ ap (λ l. list.codeOf l t) (c .before .before .list-of .ensures)),
+      ne-eqb (c .before .code-of .result) 0 (c .if1 .left),
+    )
 
 pub code-rule-spec : {M : Type 1} → statement M
 code-rule-spec = tie.close (tie.spec _ _ returns returns-2)

@@ -14,8 +14,12 @@ text-rule-spec =
     (λ c. rw (c .before .before .before .if1 .left, sym (c .before .before .has-codes .ensures) ∙ c .before .if2 .taken) (c .code-rule .ensures))
     (λ c κs. search needs) (λ c κs. search needs)
     (λ c.
-    rw (c .before .before .before .before .before .if1 .left, sym (c .before .before .before .before .has-codes .ensures)
-    ∙ c .before .before .before .if2 .left, sym (c .before .before .is-time .ensures) ∙ c .before .if3 .taken)
+    rw (
+      c .before .before .before .before .before .if1 .left,
+      sym (c .before .before .before .before .has-codes .ensures)
+          ∙ c .before .before .before .if2 .left,
+      sym (c .before .before .is-time .ensures) ∙ c .before .if3 .taken,
+    )
     (c .time-rule .ensures))
     (λ c κs. search needs)
     (λ c.

@@ -14,20 +14,32 @@ returns c = simp (c .stop .ensures, lt-ltb _ _ (c .before .if1 .taken))
 returns-2 : tie.Need-returns-2
 unfolding checkedFields
 returns-2 c =
-    simp (c .stop2 .ensures, le-ltb _ _ (c .before .before .before .if1 .left), sym (ap not (c .before .before .«is-listed» .ensures))
-    ∙ c .before .if2 .taken)
+    simp (
+      c .stop2 .ensures,
+      le-ltb _ _ (c .before .before .before .if1 .left),
+      sym (ap not (c .before .before .«is-listed» .ensures))
+          ∙ c .before .if2 .taken,
+    )
 
 returns-3 : tie.Need-returns-3
 unfolding checkedFields
 returns-3 c =
-    simp (c .stop3 .ensures, le-ltb _ _ (c .before .before .before .before .if1 .left),
-    sym (ap not (c .before .before .before .«is-listed» .ensures)) ∙ c .before .before .if2 .left, c .before .if3 .taken)
+    simp (
+      c .stop3 .ensures,
+      le-ltb _ _ (c .before .before .before .before .if1 .left),
+      sym (ap not (c .before .before .before .«is-listed» .ensures)) ∙ c .before .before .if2 .left,
+      c .before .if3 .taken,
+    )
 
 returns-4 : tie.Need-returns-4
 unfolding checkedFields
 returns-4 c =
-    simp (c .«fresh-entry» .ensures, le-ltb _ _ (c .before .before .before .before .if1 .left),
-    sym (ap not (c .before .before .before .«is-listed» .ensures)) ∙ c .before .before .if2 .left, c .before .if3 .left)
+    simp (
+      c .«fresh-entry» .ensures,
+      le-ltb _ _ (c .before .before .before .before .if1 .left),
+      sym (ap not (c .before .before .before .«is-listed» .ensures)) ∙ c .before .before .if2 .left,
+      c .before .if3 .left,
+    )
 
 pub check-fields-spec : {M : Type 1} → statement M
 check-fields-spec =

@@ -21,9 +21,11 @@ returns c = let a = c .before .before .before .before .args in let i = c .before
     (eq-eqb _ _ (c .if1 .taken)))
 
 loop-again : tie.Need-loop-again Inv-loop μ-loop
-loop-again c = let a = c .before .before .before .before .args in let i = c .before .before .before .loop .i in
-    (search needs, c .before .before .before .loop .inv .1 ∙ listed-on (a .keys .now) (a .key) i (c .before .before .«loop-test» .taken)
-    (ne-eqb _ _ (c .if1 .left)))
+loop-again c = let a = c .before .before .before .before .args in let i = c .before .before .before .loop .i in (
+  search needs,
+  c .before .before .before .loop .inv .1 ∙ listed-on (a .keys .now) (a .key) i (c .before .before .«loop-test» .taken)
+      (ne-eqb _ _ (c .if1 .left)),
+)
 
 returns-2 : tie.Need-returns-2 Inv-loop μ-loop
 returns-2 c = let a = c .before .before .args in

@@ -14,8 +14,12 @@ returns c =
 returns-2 : tie.Need-returns-2
 unfolding planned
 returns-2 c =
-    simp (c .refusal .ensures, lt-ltb _ _ (c .before .before .before .if1 .taken), sym (c .before .before .«is-above» .ensures)
-    ∙ c .before .if2 .left)
+    simp (
+      c .refusal .ensures,
+      lt-ltb _ _ (c .before .before .before .if1 .taken),
+      sym (c .before .before .«is-above» .ensures)
+          ∙ c .before .if2 .left,
+    )
 
 returns-3 : tie.Need-returns-3
 unfolding planned

@@ -13,19 +13,22 @@ returns c =
     (c .before .before .before .write-cap .ensures)
 
 returns-2 : tie.Need-returns-2
-returns-2 c =
-    (c .refused .ensures ∙ ap (partSentence _ _ _) (sym (c .before .enum-told .given .1)),
-    ap (partAfter _ _ _) (sym (c .before .enum-told .given .1)))
+returns-2 c = (
+  c .refused .ensures ∙ ap (partSentence _ _ _) (sym (c .before .enum-told .given .1)),
+  ap (partAfter _ _ _) (sym (c .before .enum-told .given .1)),
+)
 
 returns-3 : tie.Need-returns-3
-returns-3 c =
-    (c .refused2 .ensures ∙ ap (partSentence _ _ _) (sym (c .before .enum-told2 .given .1)),
-    ap (partAfter _ _ _) (sym (c .before .enum-told2 .given .1)))
+returns-3 c = (
+  c .refused2 .ensures ∙ ap (partSentence _ _ _) (sym (c .before .enum-told2 .given .1)),
+  ap (partAfter _ _ _) (sym (c .before .enum-told2 .given .1)),
+)
 
 returns-4 : tie.Need-returns-4
-returns-4 c =
-    (c .refused3 .ensures ∙ ap (partSentence _ _ _) (sym (c .before .before .drawn2 .given .1)),
-    ap (partAfter _ _ _) (sym (c .before .before .drawn2 .given .1)))
+returns-4 c = (
+  c .refused3 .ensures ∙ ap (partSentence _ _ _) (sym (c .before .before .drawn2 .given .1)),
+  ap (partAfter _ _ _) (sym (c .before .before .drawn2 .given .1)),
+)
 
 pub write-drawn-spec : {M : Type 1} → statement M
 write-drawn-spec =

@@ -14,9 +14,11 @@ returns c =
     (c .before .before .before .write-warn .ensures)
 
 returns-2 : tie.Need-returns-2
-returns-2 c =
-    (c .refused .ensures ∙ ap (λ (n : ℕ). refused n 0) (c .before .fault-number .ensures) ∙ ap (packetSentence _ _)
-    (sym (c .before .before .before .drawn2 .given .1)), ap (packetAfter _ _) (sym (c .before .before .before .drawn2 .given .1)))
+returns-2 c = (
+  c .refused .ensures ∙ ap (λ (n : ℕ). refused n 0) (c .before .fault-number .ensures) ∙ ap (packetSentence _ _)
+      (sym (c .before .before .before .drawn2 .given .1)),
+  ap (packetAfter _ _) (sym (c .before .before .before .drawn2 .given .1)),
+)
 
 pub write-drawn-spec : {M : Type 1} → statement M
 write-drawn-spec =

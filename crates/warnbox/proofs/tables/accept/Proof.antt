@@ -53,9 +53,11 @@ module _ {M : Type 1} (𝓤 : URA M) (H : Heap 𝓤) (A : Atoms 𝓤) (W : Given
     (decides : Triple 𝓤 (𝓣 .C decide-def.name) (tripleOf 𝓤 H A decide.signature (decide.spec 𝓤 H A mem run))) where
   meets : Meets 𝓤 H A accept.signature (WpFn 𝓤 H (𝓣 .C) (𝓣 .Λ) code.function) (accept.spec 𝓤 H A mem run)
   meets =
-      met W accept.ended stayed (accept.clauses 𝓤 H A mem run)
-      (goes-slice 𝓤 H A W 1 0 tt (plain (λ _. R)), all-drop 𝓤 H A W (others (accept.signature .params)) (accept.ended .kept .1)
-      ((λ κs x f. refl), tt)) 𝓣 code.function
+      met W accept.ended stayed (accept.clauses 𝓤 H A mem run) (
+        goes-slice 𝓤 H A W 1 0 tt (plain (λ _. R)),
+        all-drop 𝓤 H A W (others (accept.signature .params)) (accept.ended .kept .1)
+            ((λ κs x f. refl), tt),
+      ) 𝓣 code.function
       (λ κs. (mutable (named 0) (κs .0) R, (checked .spelled, tt))) (λ κs qs b a g are are-typed.
       let xs : List Entry = now (a .0) in
       let c : Checked = a .1 .0 in
@@ -77,9 +79,16 @@ module _ {M : Type 1} (𝓤 : URA M) (H : Heap 𝓤) (A : Atoms 𝓤) (W : Given
       ((refl, LL.owed T.the-type T′.the-laws (c .entry) _ new .1 .0 .1), ((refl, LL.owed T.the-type T′.the-laws (c .entry) _ new .1 .1 .0 .1), tt)) $
       move ! (1 ∷ 0 ∷ []) $ join ! $
       -- what `scan` is given; the entries until they come back; that they are open, with two notes; local k at k + 5
-      calls-equal ! 𝓣 scan.ended (scan.clauses 𝓤 H A mem run) scans
-      (((ν ∷ [], tt), (fullShare, tt), tt, (record { ptr = a .0 .ptr; name = δ; now = xs }, (c .entry .key, (c .entry .event, tt))),
-      (slice ∷ [], (vint w32 (c .entry .key) ∷ [], (vint w32 (c .entry .event) ∷ [], tt)))), tt)
+      calls-equal ! 𝓣 scan.ended (scan.clauses 𝓤 H A mem run) scans (
+        (
+          (ν ∷ [], tt),
+          (fullShare, tt),
+          tt,
+          (record { ptr = a .0 .ptr; name = δ; now = xs }, (c .entry .key, (c .entry .event, tt))),
+          (slice ∷ [], (vint w32 (c .entry .key) ∷ [], (vint w32 (c .entry .event) ∷ [], tt))),
+        ),
+        tt,
+      )
       (id⊢ 𝓤 _) (id⊢ 𝓤 _) candidates s (λ r ws. r ≡ s) (λ r ws. id⊢ 𝓤 _) (λ r ws e. e)
       (and-then ! (local ! 12 refl) (and-then ! (load ! (from ! (fld ! refl (fld ! refl (stop !))))
       (look-in ! 7 (sub ! 1 refl (sub ! 2 refl (whole !))))) (and-then ! (load ! (from ! (fld ! refl (fld ! refl (stop !))))

@@ -46,11 +46,15 @@ module _ {M : Type 1} (𝓤 : URA M) (H : Heap 𝓤) (A : Atoms 𝓤) (W : Given
     (accepts : Triple 𝓤 (𝓣 .C accept-def.name) (tripleOf 𝓤 H A accept.signature (accept.spec 𝓤 H A mem run)))
     (counts : Triple 𝓤 (𝓣 .C counting-def.name) (tripleOf 𝓤 H A counting.signature (counting.spec 𝓤 H A mem run))) where
   meets : Meets 𝓤 H A receive.signature (WpFn 𝓤 H (𝓣 .C) (𝓣 .Λ) code.function) (receive.spec 𝓤 H A mem run)
-  meets = met W receive.ended stayed (receive.clauses 𝓤 H A mem run)
-      (goes-gave-slice 𝓤 H A W 3 0 tt (plain (λ _. R)), all-drop 𝓤 H A W (others (receive.signature .params)) (receive.ended .kept .1)
-      ((λ κs x f. refl), ((λ κs x f. refl), ((λ κs x f. refl), ((λ κs x f. refl), tt))))) 𝓣 code.function
-      (λ κs. (mutable (named 0) (κs .0) R,
-      (shared (named 1) (κs .1 .0) u8, (shared (named 2) (κs .1 .1 .0) u32, (truth .spelled, (number w64 .spelled, tt))))))
+  meets = met W receive.ended stayed (receive.clauses 𝓤 H A mem run) (
+    goes-gave-slice 𝓤 H A W 3 0 tt (plain (λ _. R)),
+    all-drop 𝓤 H A W (others (receive.signature .params)) (receive.ended .kept .1)
+        ((λ κs x f. refl), ((λ κs x f. refl), ((λ κs x f. refl), ((λ κs x f. refl), tt)))),
+  ) 𝓣 code.function
+      (λ κs. (
+        mutable (named 0) (κs .0) R,
+        (shared (named 1) (κs .1 .0) u8, (shared (named 2) (κs .1 .1 .0) u32, (truth .spelled, (number w64 .spelled, tt)))),
+      ))
       (λ κs qs b a g are are-typed.
       let xs : List Entry = now (a .0) in
       let slice : Val = sliceVal (a .0 .ptr) (length xs) in
@@ -58,9 +62,13 @@ module _ {M : Type 1} (𝓤 : URA M) (H : Heap 𝓤) (A : Atoms 𝓤) (W : Given
       let o : Outcome = accepting c xs in
       let is-o : received xs (now (a .1 .0)) (now (a .1 .1 .0)) (a .1 .1 .1 .0) (a .1 .1 .1 .1 .0) ≡ o = received-is (now (a .1 .1 .0))
       (a .1 .1 .1 .0) (a .1 .1 .1 .1 .0) xs (now (a .1 .0)) in
-      let at : Vals receive.signature κs = (slice ∷ [],
-      (sliceVal (a .1 .0 .ptr) (length (now (a .1 .0))) ∷ [],
-      (sliceVal (a .1 .1 .0 .ptr) (length (now (a .1 .1 .0))) ∷ [], (vbool (a .1 .1 .1 .0) ∷ [], (vint w64 (a .1 .1 .1 .1 .0) ∷ [], tt))))) in
+      let at : Vals receive.signature κs = (
+        slice ∷ [],
+        (
+          sliceVal (a .1 .0 .ptr) (length (now (a .1 .0))) ∷ [],
+          (sliceVal (a .1 .1 .0 .ptr) (length (now (a .1 .1 .0))) ∷ [], (vbool (a .1 .1 .1 .0) ∷ [], (vint w64 (a .1 .1 .1 .1 .0) ∷ [], tt))),
+        ),
+      ) in
       qed W ((‵ (flft (κs .0) (qs .0)) ⊛ (‵ (flft (κs .1 .0) (qs .1 .0)) ⊛ (‵ (flft (κs .1 .1 .0) (qs .1 .1 .0)) ⊛ ‵ ftrue))) ∷ ‵
       (owns (typesAt (receive.signature .params) κs) a at) ∷ []) ∵ enters ! code.function _ (λ _. are-typed) (λ bs.
       move ! (21 ∷ []) $ fsplit ! $ move ! (22 ∷ []) $ split ! $ move ! (1 ∷ 3 ∷ []) $ join ! $
