@@ -5,8 +5,8 @@
 
 `rt ci` tries the edits under must-fail/, each by a check of its crate from nothing. Here a crate is checked once from nothing into a
 folder of its own, as it stands (it must be proved), and each edit over a copy of that folder, so that only what the edit reaches is
-checked again. A result that was kept wrongly is expected to let an edit pass as proved, which counts as failed. Each line says
-where the first error stands.
+checked again. A result that was kept wrongly is expected to let an edit pass as proved, which counts as failed; so does an edit
+that is refused because a name isn't in scope, which shows nothing. Each line says where the first error stands.
 """
 import concurrent.futures
 import glob
@@ -83,8 +83,10 @@ def try_edit(name, edit, work, seed):
         return False, f"edit {label}: BAD EDIT: {wrong}"
     status, said, seconds = check(name, folder, kept)
     if status == 1 and re.search(r"^logic=not-proved", said, re.M):
-        first = re.search(r"^(\S+:\d+:\d+): error", said, re.M)
+        first = re.search(r"^(\S+:\d+:\d+): error: (.*)", said, re.M)
         where = first.group(1).replace(folder + "/", "") if first else "?"
+        if first and "is not in scope" in first.group(2):
+            return False, f"edit {label}: BAD EDIT: it names what is not in scope at {where}"
         return True, f"edit {label}: refused, as it must be (first at {where}; {seconds:.0f} s)"
     return False, f"edit {label}: NOT REFUSED (exit {status}; {seconds:.0f} s)"
 
