@@ -115,7 +115,7 @@ answered keys verdict clock es (packet.Alert f) =
 unfoldable pub received : List Entry → List ℕ → List ℕ → Bool → ℕ → Outcome
 received es p keys verdict clock = answered keys verdict clock es (packetOf p)
 
--- document 01's number for each answer, 0 for acceptance; the place is 0
+-- document 01's number for each answer, 0 for acceptance; a refusal's offset is 0
 abbrev pub receiptNumber : Receipt → ℕ
 receiptNumber Accepted = 0
 receiptNumber ClockOutOfRange = 12

@@ -115,7 +115,7 @@ fn accept(table: Table, checked: Checked) -> Received
     Received { receipt, table }
 }
 
-// Document 01's number for an answer, 0 for acceptance; the place is 0.
+// Document 01's number for an answer, 0 for acceptance; a refusal's offset is 0.
 pub fn receipt_number(receipt: Receipt) -> u8
     ensures { λ r. ⌜ r ≡ receiptNumber receipt ⌝ }
 {

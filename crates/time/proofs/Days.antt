@@ -12,7 +12,7 @@ use lib.ListN.{getD}
 use mir.Val.{boolByte}
 use Rattle.text.specs.Logic.{by-test, and-left, and-right, below-at}
 use Rattle.time.specs.Calendar.{isLeap, yearDays, monthDays, daysOfYears, daysOfMonths}
-use Rattle.time.specs.Limits.{isTabled, Tabled}
+use Rattle.time.specs.Tables.{hasMonth, MonthTable}
 
 -- ---- years
 
@@ -86,14 +86,14 @@ unfolding daysOfMonths
 same-kind y z zero e = refl
 same-kind y z (suc n) e = rw (e, same-kind y z n e)
 
-module _ {before : List ℕ} {m : ℕ} (p : Tabled before m) (y : ℕ) (b : Bool) (e : b ≡ isLeap y) where
-  tabled : isTabled before 1 m && isTabled before 4 m ≡ true
-  tabled = below-at 13 (λ (k : ℕ). isTabled before 1 k && isTabled before 4 k) (p .right) m (p .month-high)
+module _ {before : List ℕ} {m : ℕ} (p : MonthTable before m) (y : ℕ) (b : Bool) (e : b ≡ isLeap y) where
+  tabled : hasMonth before 1 m && hasMonth before 4 m ≡ true
+  tabled = below-at 13 (λ (k : ℕ). hasMonth before 1 k && hasMonth before 4 k) (p .right) m (p .month-high)
 
-  like : (z : ℕ) → isLeap y ≡ isLeap z → isTabled before z m ≡ true → getD before m 0 + boolByte (ltb 2 m && b) ≡ daysOfMonths y (m - 1)
+  like : (z : ℕ) → isLeap y ≡ isLeap z → hasMonth before z m ≡ true → getD before m 0 + boolByte (ltb 2 m && b) ≡ daysOfMonths y (m - 1)
   like z k t = rw (e, k, same-kind y z (m - 1) k) (eqb-true _ _ t)
 
   -- the table, with the leap day from March on
   pub months-table : getD before m 0 + boolByte (ltb 2 m && b) ≡ daysOfMonths y (m - 1)
   months-table =
-      by-test (isLeap y) (λ k. like 4 k (and-right (isTabled before 1 m) _ tabled)) (λ k. like 1 k (and-left _ (isTabled before 4 m) tabled))
+      by-test (isLeap y) (λ k. like 4 k (and-right (hasMonth before 1 m) _ tabled)) (λ k. like 1 k (and-left _ (hasMonth before 4 m) tabled))

@@ -3,3 +3,4 @@ pub mod Digits
 pub mod Time
 pub mod Samples
 pub mod Limits
+pub mod Tables

@@ -2,7 +2,8 @@
 ghost use mathlib.Core.Path.{_≡_};
 ghost use Prim.Native.Nat.{_≤_};
 ghost use Rattle.time.specs.Calendar.{isLeap, monthDays, daysBeforeYear, daysBeforeMonth, daysBefore};
-ghost use Rattle.time.specs.Limits.{Dated, Tabled};
+ghost use Rattle.time.specs.Limits.{Dated};
+ghost use Rattle.time.specs.Tables.{MonthTable};
 
 // The days of a common year before each month, by the month's number; there is no month 0.
 const BEFORE: [u64; 13] = [0, 0, 31, 59, 90, 120, 151, 181, 212, 243, 273, 304, 334];
@@ -41,7 +42,7 @@ fn days_before_year(y: u64) -> u64
 
 // The days of a year before a month's first: from March on, the leap day too.
 fn days_before_month(before: &[u64; 13], y: u64, m: u64) -> u64
-    requires { ⌜ Tabled (now before) m ⌝ }
+    requires { ⌜ MonthTable (now before) m ⌝ }
     ensures { λ r. ⌜ r ≡ daysBeforeMonth y m ⌝ }
 {
     before[m as usize] + ((2 < m) & is_leap(y)) as u64
