@@ -1,6 +1,3 @@
-pub mod Tests
-pub mod Flags
-pub mod BackAndForth
 pub mod Pairs
 pub mod Places
 pub mod Writing

@@ -1,19 +1,20 @@
 -- What the writers of sentences for C give, by the cases of their definitions.
 use mathlib.Core.Path.{_≡_, refl, sym, ap, _∙_}
-use mathlib.Core.Bool.{Bool, true, false, _&&_}
+use mathlib.Core.Bool.{true, false, _&&_}
 use mathlib.Core.List.{List}
 use Prim.Native.Nat.{ℕ, _+_, _-_, _≤_, _<_}
 use native.Mathlib.Omega.{arith}
 use lib.Dec.{leb}
 use lib.ListN.{length}
 use borrow.Author.Tests.{le-leb, lt-leb, leb-true, leb-false}
-use Rattle.text.specs.Logic.{by-test, and-left}
+use Rattle.text.specs.Logic.{by-test}
 use Rattle.sheet.specs.declared.WriteSheet.{WriteSheet}
 use Rattle.sheet.specs.declared.CapFacts.{CapFacts}
 use Rattle.sheet.specs.declared.WarnFacts.{WarnFacts}
 use Rattle.sheet.specs.declared.Span.{Span}
+use Rattle.sheet.specs.declared.Found.the-variants as found
 use Rattle.sheet.specs.Sheet.{cap, warn}
-use Rattle.sheet.specs.Reading.{spanIn}
+use Rattle.sheet.specs.Reading.{spanIn, sheetIn}
 use Rattle.sheet.specs.Answers.{writeSheet, after}
 use Rattle.packet.specs.declared.PacketSheet.{PacketSheet}
 use Rattle.packet.specs.declared.PacketSheet.the-variants as packet
@@ -21,8 +22,7 @@ use Rattle.parts.specs.declared.CapSheet.{CapSheet}
 use Rattle.parts.specs.declared.CapSheet.the-variants as drawn
 use Rattle.warnbox.specs.declared.Answer.{Answer}
 use Rattle.warnbox.specs.Answers.{refused, writeAnswer}
-use Rattle.warnbox.specs.Numbers.{areCap, capFrom, senderFrom, nameFrom, areWarn, warnFrom}
-use Rattle.warnbox.specs.Sentences.{partSentence, partAfter, packetSentence, packetAfter, liesIn, areCapIn, numbersSentence, numbersAfter}
+use Rattle.warnbox.specs.Sentences.{partSentence, partAfter, packetSentence, packetAfter, liesIn, foundSentence, foundAfter}
 
 -- ---- a sheet that was drawn; r is the writer's answer, e what it leaves in the buffer
 
@@ -52,33 +52,22 @@ module _ (t : List ℕ) (s : Span) where
 
 -- ---- a sheet that is handed in as numbers
 
-pub is-cap : (t n : List ℕ) (b : Bool) → b ≡ areCapIn t n → b ≡ true → areCap n ≡ true
-is-cap t n b e h = and-left (areCap n) _ (and-left (areCap n && liesIn t (senderFrom n)) _ (sym e ∙ h))
-
-module _ (d : List ℕ) (start : ℕ) (t n : List ℕ) (b : Bool) (q : b ≡ areCapIn t n) where
-  module _ (r : WriteSheet) (e : List ℕ) (a : Answer) (m : a ≡ writeAnswer r) (h : b ≡ true) (f : CapFacts) (o : f ≡ capFrom n) (s p : Span)
-      (j : s ≡ senderFrom n) (k : p ≡ nameFrom n) (u v : List ℕ) (g : u ≡ spanIn t s) (i : v ≡ spanIn t p) where
-    same-sheet : cap f u v ≡ cap (capFrom n) (spanIn t (senderFrom n)) (spanIn t (nameFrom n))
-    same-sheet = rw (o, g, i, j, k)
-
+module _ (d : List ℕ) (start : ℕ) (t : List ℕ) (r : WriteSheet) (e : List ℕ) (a : Answer) (m : a ≡ writeAnswer r) where
+  module _ (f : CapFacts) (s n : Span) (u v : List ℕ) (g : u ≡ spanIn t s) (h : v ≡ spanIn t n) (i : liesIn t s && liesIn t n ≡ true) where
     pub cap-written :
-        (r ≡ writeSheet d start (cap f u v)) × (e ≡ after d start (cap f u v)) → (a ≡ numbersSentence d start t n) × (e ≡ numbersAfter d start t n)
-    unfolding numbersSentence numbersAfter
-    cap-written w = (
-      rw (← q, h) (m ∙ ap writeAnswer (w .0 ∙ ap (writeSheet d start) same-sheet)),
-      rw (← q, h) (w .1 ∙ ap (after d start) same-sheet),
-    )
+        (r ≡ writeSheet d start (cap f u v)) × (e ≡ after d start (cap f u v))
+        → (a ≡ foundSentence d start t (found.Cap f s n)) × (e ≡ foundAfter d start t (found.Cap f s n))
+    unfolding foundSentence foundAfter sheetIn
+    cap-written w = rw (i, ← g, ← h, ← (w .0), ← (w .1)) (m, refl)
 
-  module _ (h : b ≡ false) (c : Bool) (z : c ≡ areWarn n) where
-    module _ (r : WriteSheet) (e : List ℕ) (a : Answer) (m : a ≡ writeAnswer r) (y : c ≡ true) (w : WarnFacts) (o : w ≡ warnFrom n) where
-      pub warn-written :
-          (r ≡ writeSheet d start (warn w)) × (e ≡ after d start (warn w)) → (a ≡ numbersSentence d start t n) × (e ≡ numbersAfter d start t n)
-      unfolding numbersSentence numbersAfter
-      warn-written p = (
-        rw (← q, h, ← z, y) (m ∙ ap writeAnswer (p .0 ∙ ap (λ (x : WarnFacts). writeSheet d start (warn x)) o)),
-        rw (← q, h, ← z, y) (p .1 ∙ ap (λ (x : WarnFacts). after d start (warn x)) o),
-      )
+  pub warn-written :
+      (w : WarnFacts) → (r ≡ writeSheet d start (warn w)) × (e ≡ after d start (warn w))
+      → (a ≡ foundSentence d start t (found.Warn w)) × (e ≡ foundAfter d start t (found.Warn w))
+  unfolding foundSentence foundAfter sheetIn
+  warn-written w p = rw (← (p .0), ← (p .1)) (m, refl)
 
-    pub no-sheet : (a : Answer) → a ≡ refused 23 0 → c ≡ false → (a ≡ numbersSentence d start t n) × (d ≡ numbersAfter d start t n)
-    unfolding numbersSentence numbersAfter
-    no-sheet a m y = rw (← q, h, ← z, y) (m, refl)
+pub not-there :
+    (d : List ℕ) (start : ℕ) (t : List ℕ) (f : CapFacts) (s n : Span) (a : Answer) → liesIn t s && liesIn t n ≡ false → a ≡ refused 23 0
+    → (a ≡ foundSentence d start t (found.Cap f s n)) × (d ≡ foundAfter d start t (found.Cap f s n))
+unfolding foundSentence foundAfter
+not-there d start t f s n a h m = rw h (m, refl)

@@ -1,15 +1,20 @@
 -- Sentences of parts, of packets and of sheets as numbers; and a text read back.
-use mathlib.Core.Bool.{Bool, cond, _&&_}
+use mathlib.Core.Bool.{Bool, true, cond, _&&_}
 use mathlib.Core.List.{List}
 use Prim.Native.Nat.{ℕ, _+_}
 use lib.Dec.{leb}
 use lib.ListN.{length}
 use Rattle.sheet.specs.declared.Span.{Span}
+use Rattle.sheet.specs.declared.Found.{Found}
+use Rattle.sheet.specs.declared.Found.the-variants as found
 use Rattle.sheet.specs.declared.ReadBack.{ReadBack}
 use Rattle.sheet.specs.declared.ReadBack.the-variants as read
 use Rattle.sheet.specs.Sheet.{cap, warn}
-use Rattle.sheet.specs.Reading.{spanIn}
+use Rattle.sheet.specs.Reading.{spanIn, sheetIn}
 use Rattle.sheet.specs.Answers.{writeSheet, after}
+use Rattle.numbers.specs.declared.NumbersSheet.{NumbersSheet}
+use Rattle.numbers.specs.declared.NumbersSheet.the-variants as given
+use Rattle.numbers.specs.Numbers.{numbersOf}
 use Rattle.packet.specs.declared.PacketSheet.{PacketSheet}
 use Rattle.packet.specs.declared.PacketSheet.the-variants as packet
 use Rattle.packet.specs.Packet.{faultNumber}
@@ -18,7 +23,6 @@ use Rattle.parts.specs.declared.CapSheet.the-variants as drawn
 use Rattle.parts.specs.Sheets.{sheetNumber, sheetOffset}
 use Rattle.warnbox.specs.declared.Answer.{Answer}
 use Rattle.warnbox.specs.Answers.{refused, writeAnswer}
-use Rattle.warnbox.specs.Numbers.{areCap, capFrom, senderFrom, nameFrom, areWarn, warnFrom, numbersOf}
 
 -- ---- the sentence of a part of the document l, into the buffer d from an offset on; d is what it held before
 
@@ -44,26 +48,31 @@ abbrev pub packetAfter : List ℕ → ℕ → PacketSheet → List ℕ
 packetAfter d start (packet.Sheet w) = after d start (warn w)
 packetAfter d start (packet.Refused fault) = d
 
--- ---- the sentence of a sheet that is handed in as the numbers n, with the text t that holds its sender and name. Numbers that stand
--- for no sheet are "a fact out of range", 23
+-- ---- the sentence of a sheet that is handed in as numbers, with the text t that holds its sender and name. Numbers that stand for
+-- no sheet are "a fact out of range", 23, as are a sender and a name that aren't there
 
 -- a part of the text t
 abbrev pub liesIn : List ℕ → Span → Bool
 liesIn t s = leb (s .start + s .len) (length t)
 
--- the numbers stand for a CAP sheet whose sender and name stand in the text
-abbrev pub areCapIn : List ℕ → List ℕ → Bool
-areCapIn t n = areCap n && liesIn t (senderFrom n) && liesIn t (nameFrom n)
+-- a sheet's sender and name are parts of the text t
+abbrev pub standsIn : List ℕ → Found → Bool
+standsIn t (found.Cap f sender name) = liesIn t sender && liesIn t name
+standsIn t (found.Warn w) = true
 
-unfoldable pub numbersSentence : List ℕ → ℕ → List ℕ → List ℕ → Answer
-numbersSentence d start t n =
-    cond (areCapIn t n) (writeAnswer (writeSheet d start (cap (capFrom n) (spanIn t (senderFrom n)) (spanIn t (nameFrom n)))))
-    (cond (areWarn n) (writeAnswer (writeSheet d start (warn (warnFrom n)))) (refused 23 0))
+unfoldable pub foundSentence : List ℕ → ℕ → List ℕ → Found → Answer
+foundSentence d start t x = cond (standsIn t x) (writeAnswer (writeSheet d start (sheetIn t x))) (refused 23 0)
 
-unfoldable pub numbersAfter : List ℕ → ℕ → List ℕ → List ℕ → List ℕ
-numbersAfter d start t n =
-    cond (areCapIn t n) (after d start (cap (capFrom n) (spanIn t (senderFrom n)) (spanIn t (nameFrom n))))
-    (cond (areWarn n) (after d start (warn (warnFrom n))) d)
+unfoldable pub foundAfter : List ℕ → ℕ → List ℕ → Found → List ℕ
+foundAfter d start t x = cond (standsIn t x) (after d start (sheetIn t x)) d
+
+abbrev pub numbersSentence : List ℕ → ℕ → List ℕ → NumbersSheet → Answer
+numbersSentence d start t (given.Sheet x) = foundSentence d start t x
+numbersSentence d start t given.NotSheet = refused 23 0
+
+abbrev pub numbersAfter : List ℕ → ℕ → List ℕ → NumbersSheet → List ℕ
+numbersAfter d start t (given.Sheet x) = foundAfter d start t x
+numbersAfter d start t given.NotSheet = d
 
 -- ---- the numbers that reading back leaves: those of the sheet asked for, or what was there
 

@@ -3,14 +3,18 @@ use crate::Answer;
 use crate::answers::read_answer;
 use crate::answers::refused;
 use crate::answers::write_answer;
-use crate::numbers;
+use numbers::NumbersSheet;
+use sheet::CapFacts;
+use sheet::Found;
 use sheet::ReadBack;
 use sheet::Span;
 use sheet::span_in;
 ghost use mathlib.Core.Path.{_≡_};
+ghost use Rattle.sheet.specs.declared.Found.the-variants.{Cap};
 ghost use Rattle.sheet.specs.Answers.{readBack};
+ghost use Rattle.numbers.specs.Numbers.{numbersSheet};
 ghost use Rattle.warnbox.specs.Answers.{readAnswer};
-ghost use Rattle.warnbox.specs.Sentences.{liesIn, areCapIn, numbersSentence, numbersAfter, numbersRead};
+ghost use Rattle.warnbox.specs.Sentences.{liesIn, foundSentence, foundAfter, numbersSentence, numbersAfter, numbersRead};
 
 // Whether a part lies in a text.
 fn lies_in(text: &[u8], span: Span) -> bool
@@ -22,30 +26,47 @@ fn lies_in(text: &[u8], span: Span) -> bool
     span.len <= text.len() - span.start
 }
 
-// Whether numbers stand for a CAP sheet whose sender and name stand in a text.
-fn are_cap_in(text: &[u8], sheet: &[u64; 15]) -> bool
-    ensures { λ r. ⌜ r ≡ areCapIn (now (text .entry)) (now (sheet .entry)) ⌝ }
+// Writes the sentence of a CAP sheet whose sender and name are to stand in a text.
+fn write_cap_in(
+    buffer: &mut [u8],
+    start: usize,
+    text: &[u8],
+    facts: CapFacts,
+    sender: Span,
+    name: Span,
+) -> Answer
+    ensures { λ r. ⌜ (r ≡ foundSentence (now (buffer .entry)) start (now (text .entry)) (Cap facts sender name)) × (now (buffer .exit) ≡ foundAfter (now (buffer .entry)) start (now (text .entry)) (Cap facts sender name)) ⌝ }
 {
-    let sender = numbers::sender_from(sheet);
-    let name = numbers::name_from(sheet);
-    numbers::are_cap(sheet) & lies_in(text, sender) & lies_in(text, name)
+    if !(lies_in(text, sender) & lies_in(text, name)) {
+        return refused(23, 0);
+    }
+    write_answer(readback::write_cap(
+        buffer,
+        start,
+        facts,
+        span_in(text, sender),
+        span_in(text, name),
+    ))
+}
+
+// Writes the sentence of a sheet that is handed in with the text it is to stand in.
+fn write_found(buffer: &mut [u8], start: usize, text: &[u8], found: Found) -> Answer
+    ensures { λ r. ⌜ (r ≡ foundSentence (now (buffer .entry)) start (now (text .entry)) found) × (now (buffer .exit) ≡ foundAfter (now (buffer .entry)) start (now (text .entry)) found) ⌝ }
+{
+    match found {
+        Found::Cap(facts, sender, name) => write_cap_in(buffer, start, text, facts, sender, name),
+        Found::Warn(facts) => write_answer(readback::write_warn(buffer, start, facts)),
+    }
 }
 
 // Writes the sentence of a sheet that is handed in as numbers.
 fn write_numbers(buffer: &mut [u8], start: usize, text: &[u8], sheet: &[u64; 15]) -> Answer
-    ensures { λ r. ⌜ (r ≡ numbersSentence (now (buffer .entry)) start (now (text .entry)) (now (sheet .entry))) × (now (buffer .exit) ≡ numbersAfter (now (buffer .entry)) start (now (text .entry)) (now (sheet .entry))) ⌝ }
+    ensures { λ r. ⌜ (r ≡ numbersSentence (now (buffer .entry)) start (now (text .entry)) (numbersSheet (now (sheet .entry)))) × (now (buffer .exit) ≡ numbersAfter (now (buffer .entry)) start (now (text .entry)) (numbersSheet (now (sheet .entry)))) ⌝ }
 {
-    if are_cap_in(text, sheet) {
-        let facts = numbers::cap_from(sheet);
-        let sender = span_in(text, numbers::sender_from(sheet));
-        let name = span_in(text, numbers::name_from(sheet));
-        return write_answer(readback::write_cap(buffer, start, facts, sender, name));
+    match numbers::numbers_sheet(sheet) {
+        NumbersSheet::Sheet(found) => write_found(buffer, start, text, found),
+        NumbersSheet::NotSheet => refused(23, 0),
     }
-    if numbers::are_warn(sheet) {
-        let facts = numbers::warn_from(sheet);
-        return write_answer(readback::write_warn(buffer, start, facts));
-    }
-    refused(23, 0)
 }
 
 // Writes the sentence of a sheet, whose sender and name stand in a text; the value is the sentence's end.
@@ -57,9 +78,9 @@ pub extern "C" fn warnbox_write(
     sheet: &[u64; 15],
     value: &mut u64,
 ) -> u8
-    ensures { λ r. ⌜ (r ≡ numbersSentence (now (buffer .entry)) start (now (text .entry)) (now (sheet .entry)) .number)
-        × (now (value .exit) ≡ numbersSentence (now (buffer .entry)) start (now (text .entry)) (now (sheet .entry)) .value)
-        × (now (buffer .exit) ≡ numbersAfter (now (buffer .entry)) start (now (text .entry)) (now (sheet .entry))) ⌝ }
+    ensures { λ r. ⌜ (r ≡ numbersSentence (now (buffer .entry)) start (now (text .entry)) (numbersSheet (now (sheet .entry))) .number)
+        × (now (value .exit) ≡ numbersSentence (now (buffer .entry)) start (now (text .entry)) (numbersSheet (now (sheet .entry))) .value)
+        × (now (buffer .exit) ≡ numbersAfter (now (buffer .entry)) start (now (text .entry)) (numbersSheet (now (sheet .entry)))) ⌝ }
 {
     let answer = write_numbers(buffer, start, text, sheet);
     *value = answer.value;
