@@ -13,7 +13,7 @@ use Rattle.text.specs.Ascii.{ascii}
 use Rattle.text.specs.Logic.{by-test}
 use Rattle.text.specs.Parts.{startsWith}
 use Rattle.text.proofs.Parts.{starts-append}
-use Rattle.xml.specs.Bytes.{leading}
+use Rattle.text.specs.Bytes.{leading}
 use Rattle.document.specs.Tags.{afterPrefix, isBeforeColon, localName}
 
 -- ---- after the document's prefix

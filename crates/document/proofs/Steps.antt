@@ -11,10 +11,10 @@ use Rattle.text.specs.Ascii.{ascii}
 use Rattle.text.specs.Logic.{and-right}
 use Rattle.text.specs.Parts.{startsWith}
 use Rattle.text.proofs.Parts.{starts-append}
-use Rattle.xml.specs.declared.Found.{Found}
-use Rattle.xml.specs.declared.Found.the-variants.{At, Nothing}
-use Rattle.xml.specs.Tags as tags
-use Rattle.xml.proofs.Skips.{tag-end-name, tag-end-slash}
+use Rattle.xml_tags.specs.declared.Found.{Found}
+use Rattle.xml_tags.specs.declared.Found.the-variants.{At, Nothing}
+use Rattle.xml_tags.specs.Tags as tags
+use Rattle.xml_tags.proofs.Skips.{tag-end-name, tag-end-slash}
 use Rattle.document.specs.declared.Mode.{Mode}
 use Rattle.document.specs.declared.Event.the-variants.{Text}
 use Rattle.document.specs.declared.Step.{Step}

@@ -2,7 +2,7 @@
 use crate::Mode;
 ghost use mathlib.Core.Path.{_≡_};
 ghost use Rattle.text.specs.Parts.{part};
-ghost use Rattle.xml.specs.Bytes.{leading};
+ghost use Rattle.text.specs.Bytes.{leading};
 ghost use Rattle.document.specs.Tags.{afterPrefix, nameIn, isBeforeColon, localName};
 
 // The name of the tag from one offset to another, after the prefix from p to u; empty where it doesn't carry that.

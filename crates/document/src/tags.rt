@@ -11,14 +11,14 @@ use crate::names::local_name;
 use crate::names::name_in;
 use crate::names::name_under;
 use schema::class;
-use xml::Found;
-use xml::NameSpace;
-use xml::Tail;
+use xml_tags::Found;
+use xml_tags::NameSpace;
+use xml_tags::Tail;
 ghost use mathlib.Core.Path.{_≡_};
 ghost use Prim.Native.Nat.{_<_};
 ghost use lib.ListN.{length};
-ghost use Rattle.xml.specs.Tags.{tail};
-ghost use Rattle.xml.specs.Attributes.{nameSpace};
+ghost use Rattle.xml_tags.specs.Tags.{tail};
+ghost use Rattle.xml_tags.specs.Attributes.{nameSpace};
 ghost use Rattle.document.specs.Tags.{otherStep, boundStep, alertStep, isAlert, startStep, closeStep, isRightEnd, endStep, tagStep};
 
 // ---- start tags
@@ -28,7 +28,7 @@ fn other_step(s: &[u8], m: Mode, n: usize) -> Step
     requires { ⌜ m .at < length (now s) ⌝ }
     ensures { λ r. ⌜ r ≡ otherStep (now (s .entry)) m n (tail (now (s .entry)) n) ⌝ }
 {
-    let tail = xml::tags::read_tail(s, n);
+    let tail = xml_tags::ends::read_tail(s, n);
     let class = schema::names::class_of(name_in(s, m, m.at + 1, n));
     match tail {
         Tail::Open(next) => open_step(s, m, class, next),
@@ -63,7 +63,7 @@ fn alert_step(s: &[u8], m: Mode, n: usize) -> Step
     requires { ⌜ m .at < length (now s) ⌝ }
     ensures { λ r. ⌜ r ≡ alertStep (now (s .entry)) m n (nameSpace (now (s .entry)) n) ⌝ }
 {
-    let space = xml::attributes::read_name_space(s, n);
+    let space = xml_tags::attributes::read_name_space(s, n);
     match space {
         NameSpace::Bound(p, u, next) => bound_step(s, m, n, p, u, next),
         NameSpace::Empty => Step::Refused(16, m.at),
@@ -129,7 +129,7 @@ fn end_step(s: &[u8], m: Mode, n: usize) -> Step
     requires { ⌜ m .at < length (now s) ⌝ }
     ensures { λ r. ⌜ r ≡ endStep (now (s .entry)) m n (tail (now (s .entry)) n) ⌝ }
 {
-    let tail = xml::tags::read_tail(s, n);
+    let tail = xml_tags::ends::read_tail(s, n);
     match tail {
         Tail::Open(next) => {
             if is_right_end(s, m, n) {
@@ -150,8 +150,8 @@ pub fn tag_step(s: &[u8], m: Mode) -> Step
     ensures { λ r. ⌜ r ≡ tagStep (now (s .entry)) m ⌝ }
 {
     let is_end = text::starts_at(s, m.at, b"</");
-    let n = xml::tags::name_end(s, m.at + 1 + is_end as usize);
-    let end = xml::tags::tag_end(s, n);
+    let n = xml_tags::ends::name_end(s, m.at + 1 + is_end as usize);
+    let end = xml_tags::ends::tag_end(s, n);
     match end {
         Found::At(e) => {
             if is_end {

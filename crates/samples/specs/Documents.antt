@@ -5,8 +5,8 @@ use Prim.Native.Nat.{ℕ}
 use Rattle.text.specs.Ascii.{ascii}
 use Rattle.text.specs.Bytes.{numberFrom}
 use Rattle.text.specs.Parts.{startsWith}
-use Rattle.xml.specs.Tags as tags
-use Rattle.xml.specs.Attributes as attribute
+use Rattle.xml_tags.specs.Tags as tags
+use Rattle.xml_tags.specs.Attributes as attribute
 use Rattle.xml.specs.Comments as comments
 use Rattle.xml.specs.Texts as texts
 use Rattle.xml.specs.Opening as opening

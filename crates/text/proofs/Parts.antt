@@ -1,15 +1,15 @@
 -- Parts of a text, and a text compared with what leads another.
 use mathlib.Core.Path.{_≡_, refl, sym, ap, _∙_}
-use mathlib.Core.Bool.{Bool, true, false, _&&_}
+use mathlib.Core.Bool.{Bool, true, false, _&&_, false≢true}
 use mathlib.Core.List.{List, [], _∷_, _++_}
 use Prim.Native.Nat.{ℕ, _+_, _-_, _≤_, _<_}
 use native.Mathlib.Nat.{suc-inj}
 use native.Mathlib.Numerals.{add-one}
 use native.Mathlib.Omega.{arith}
-use lib.Dec.{eqb}
+use lib.Dec.{eqb, leb}
 use lib.ListN.{length, getD, take, drop, length-drop, drop-of-length-le}
 use lib.Seq.{drop-cons, take-all}
-use borrow.Author.Tests.{eq-eqb, ne-eqb}
+use borrow.Author.Tests.{eq-eqb, ne-eqb, leb-true, leb-false}
 use Rattle.text.specs.Logic.{by-test, and-assoc, eql, eql-true}
 use Rattle.text.specs.Parts.{part, startsWith}
 
@@ -80,3 +80,12 @@ starts-append (a ∷ p) q [] = refl
 starts-append (a ∷ p) q (b ∷ l) =
     and-assoc (eqb b a) (startsWith p l) (startsWith q (drop (length p) l))
     ∙ ap (λ (r : Bool). eqb b a && r) (starts-append p q l)
+
+-- ---- what leads a text, or stands at an offset of it, ends inside it
+
+pub starts-le : (p l : List ℕ) → startsWith p l ≡ true → length p ≤ length l
+starts-le p l e =
+    by-test (leb (length p) (length l)) (leb-true _ _) (λ f. absurd (false≢true (sym (starts-short p l (leb-false _ _ f)) ∙ e)))
+
+pub starts-at-le : (p l : List ℕ) (at : ℕ) → 0 < length p → startsWith p (drop at l) ≡ true → at + length p ≤ length l
+starts-at-le p l at h e = omega (arith, starts-le p (drop at l) e, length-drop at l)

@@ -1,13 +1,14 @@
 -- Runs of bytes that pass a test: what a turn of a loop over one says, how long a run is, many bytes at once, and what goes on after a run.
-use mathlib.Core.Path.{_≡_, ap, _∙_}
-use mathlib.Core.Bool.{Bool, true, false, _&&_}
+use mathlib.Core.Path.{_≡_, sym, ap, _∙_}
+use mathlib.Core.Bool.{Bool, true, false, _&&_, false≢true}
 use mathlib.Core.List.{List, [], _∷_}
 use Prim.Native.Nat.{ℕ, zero, suc, _+_, _≤_, _<_, zero-le, suc-le-suc}
 use native.Mathlib.Numerals.{add-one}
 use native.Mathlib.Omega.{arith}
-use lib.Dec.{leb, leb·zero, leb·suc-zero, leb·suc-suc}
+use lib.Dec.{eqb, leb, leb·zero, leb·suc-zero, leb·suc-suc}
 use lib.ListN.{length, getD, drop, drop-of-length-le, length-drop}
 use lib.Seq.{drop-cons, drop-drop, getD-drop}
+use borrow.Author.Tests.{ne-eqb}
 use Rattle.text.specs.Bytes.{leading, ledBy}
 use Rattle.text.specs.Logic.{by-test, and-comm}
 
@@ -18,6 +19,10 @@ drop-next s i h = rw (add-one i) (drop-cons s i 0 h)
 -- the byte at an offset leads what stands there
 pub led-is : (p : ℕ → Bool) (s : List ℕ) (i : ℕ) {t : Bool} → i < length s → t ≡ p (getD s i 0) → t ≡ ledBy p (drop i s)
 led-is p s i h q = rw (drop-next s i h) q
+
+-- a byte that passes a test is none that fails it
+pub other-byte : (p : ℕ → Bool) (b k : ℕ) → p k ≡ false → p b ≡ true → eqb b k ≡ false
+other-byte p b k f t = ne-eqb b k (λ e. false≢true (sym f ∙ (sym (ap p e) ∙ t)))
 
 -- ---- a loop that goes on while bytes pass: at i, with t what the test of the byte there gave, the run's end e is still ahead, or reached
 

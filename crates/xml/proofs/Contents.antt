@@ -11,11 +11,11 @@ use Rattle.text.specs.Ascii.{ascii}
 use Rattle.text.specs.Bytes.{leading}
 use Rattle.text.specs.Parts.{startsWith}
 use Rattle.text.specs.Logic.{and-comm, and-assoc}
-use Rattle.text.proofs.Runs.{drop-next, over-run, run-longer, run-both}
+use Rattle.text.proofs.Runs.{drop-next, other-byte, over-run, run-longer, run-both}
 use Rattle.xml.specs.Bytes.{isControl, isPlain}
 use Rattle.xml.specs.Searches.{upTo}
 use Rattle.xml.specs.Texts.{isReference, isFault, content}
-use Rattle.xml.proofs.ByteKinds.{other-byte, plain-no-control}
+use Rattle.xml.proofs.ByteKinds.{plain-no-control}
 
 -- one of the five references, from what the five tests gave
 pub reference-is :

@@ -1,9 +1,5 @@
 pub mod ByteKinds
-pub mod Offsets
 pub mod Searches
 pub mod Contents
 pub mod Declaration
-pub mod Ends
-pub mod Binding
-pub mod Skips
 pub mod Bounds

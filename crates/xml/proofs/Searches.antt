@@ -12,7 +12,7 @@ use Rattle.text.proofs.Runs.{drop-next}
 use Rattle.xml.specs.declared.Content.{Content}
 use Rattle.xml.specs.declared.Content.the-variants.{Clean, Fault, Unended}
 use Rattle.xml.specs.Searches.{holds, upTo}
-use Rattle.xml.proofs.Offsets.{starts-at-le}
+use Rattle.text.proofs.Parts.{starts-at-le}
 
 -- ---- a loop that looks for an offset where a test holds: at i, with t what the test gave there, the answer r is still due, or given
 

@@ -1,32 +1,10 @@
-// The form of CAP documents as XML: where a construct ends, and whether its form is one that document 01 takes.
+// What a CAP document holds beside its tags: where a text, a comment or the declaration ends, and whether document 01 takes it.
 // Any offset may be given: past the end a document holds nothing.
-pub mod attributes; // attributes.rt: the name space attribute
 pub mod comments; // comments.rt
 pub mod opening; // opening.rt: byte order mark and declaration
-pub mod tags; // tags.rt: where tags and their names end
 pub mod texts; // texts.rt: texts of leaf elements
 mod bytes; // bytes.rt: bytes by their kind
 mod faults; // faults.rt: what has a fault, by whether its end follows
-
-// Where something stands, or that it stands nowhere.
-pub enum Found {
-    At(usize),
-    Nothing,
-}
-
-// What ends a tag after its name or attribute: ">" or "/>", with the offset after it, or something else.
-pub enum Tail {
-    Open(usize),
-    Empty(usize),
-    Fault,
-}
-
-// The name space attribute of a tag: the prefix it binds (from, until), and the offset after the tag; an empty tag; or a fault.
-pub enum NameSpace {
-    Bound(usize, usize, usize),
-    Empty,
-    Fault,
-}
 
 // A comment, after its opening: the offset after it, a fault in it, or no end.
 pub enum Comment {

@@ -8,7 +8,8 @@ ghost use mathlib.Core.Bool.{not};
 ghost use Prim.Native.Nat.{_+_, _≤_};
 ghost use lib.Dec.{eqb, leb};
 ghost use lib.ListN.{length, drop};
-ghost use Rattle.xml.specs.Bytes.{isControl, isPlain, leading};
+ghost use Rattle.text.specs.Bytes.{leading};
+ghost use Rattle.xml.specs.Bytes.{isControl, isPlain};
 ghost use Rattle.xml.specs.Texts.{isReference, isFault, content};
 
 // Whether one of the five named references stands at an offset.
