@@ -27,8 +27,8 @@ use Rattle.sheet.specs.Sheet.{warn, isLastingTime, isParts, fitsPacket, inRange
 use Rattle.sheet.specs.Reading.{sheetIn}
 use Rattle.sheet.proofs.Limits.{lasting-range, warn-range}
 use Rattle.numbers.specs.declared.NumbersSheet.the-variants.{Sheet}
-use Rattle.numbers.specs.Numbers.{isFlag, arePart, areCap, lastingFrom, partFrom, capFrom, senderFrom, nameFrom, areWarn, warnFrom, numbersSheet}
-use Rattle.numbers.specs.Numbers.{statedOf, secondsOf, numbersOfNone, numbersOfPart, withParts, capNumbers, warnNumbers, numbersOf}
+use Rattle.numbers.specs.Numbers.{isFlag, arePart, areCap, lastingFrom, partFrom, capFrom, senderFrom, nameFrom}
+use Rattle.numbers.specs.Numbers.{areWarn, warnFrom, numbersSheet, statedOf, secondsOf, numbersOfNone, numbersOfPart, withParts, capNumbers, warnNumbers, numbersOf}
 use Rattle.numbers.proofs.Tests.{joined-at}
 use Rattle.numbers.proofs.Flags.{flag-is, flag-back}
 

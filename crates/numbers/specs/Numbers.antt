@@ -103,7 +103,10 @@ warnFrom n = record {
 
 -- the sheet that numbers stand for
 unfoldable pub numbersSheet : List ℕ → NumbersSheet
-numbersSheet n = cond (areCap n) (Sheet (found.Cap (capFrom n) (senderFrom n) (nameFrom n))) (cond (areWarn n) (Sheet (found.Warn (warnFrom n))) NotSheet)
+numbersSheet n =
+    cond (areCap n) (Sheet (found.Cap (capFrom n) (senderFrom n) (nameFrom n)))
+    (cond (areWarn n) (Sheet (found.Warn (warnFrom n)))
+    NotSheet)
 
 -- ---- the numbers of a sheet that was found in a text
 

@@ -6,7 +6,10 @@ use Rattle.warnbox.proofs.sentences.write_numbers.Tie as tie
 
 returns : tie.Need-returns
 returns c =
-    rw (← c .before .before .before .before .before .before .before .numbers-sheet .ensures, c .before .before .before .before .before .found .given .1)
+    rw (
+      ← c .before .before .before .before .before .before .before .numbers-sheet .ensures,
+      c .before .before .before .before .before .found .given .1,
+    )
     (c .before .before .write-found .ensures)
 
 returns-2 : tie.Need-returns-2
