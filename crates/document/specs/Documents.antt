@@ -61,7 +61,7 @@ readFrom l m = run (suc (length l)) l m
 unfoldable pub documentOf : List ℕ → Verdict
 documentOf l = after l (readFrom l) (firstStep l)
 
--- the answer to checking a document: "refused with number and place", or accepted with the number of parts
+-- the answer to checking a document: accepted with the number of parts, or refused with number and place
 abbrev pub checked : Verdict → Check
 checked (accepted es) = check.Accepted (total es)
 checked (refused n p) = check.Refused n p

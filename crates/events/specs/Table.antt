@@ -32,7 +32,7 @@ unfoldable pub firstIndex : (Entry → Bool) → List Entry → ℕ
 firstIndex f [] = 0
 firstIndex f (e ∷ es) = cond (f e) 0 (suc (firstIndex f es))
 
--- "an event ... is tableOutcome by its first used entry"
+-- "an event ... is judged by its first used entry"
 abbrev pub indexOf : ℕ → ℕ → List Entry → ℕ
 indexOf key event es = firstIndex (isOf key event) es
 

@@ -1,4 +1,4 @@
--- The sheet of a part: "Drawing a sheet, after its packet's or document's alert: 21, 7".
+-- The sheet of a part: "Drawing a sheet, after its packet's or document's own: 21, 7".
 use mathlib.Core.Bool.{Bool, false, cond}
 use mathlib.Core.List.{List}
 use Prim.Native.Nat.{ℕ, zero, suc}
