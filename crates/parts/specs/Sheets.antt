@@ -81,7 +81,7 @@ abbrev pub sheetLasting : List ℕ → (number total : ℕ) → (alert part : �
 sheetLasting l number total alert part (lasts.Stated d) = sheetWith l alert (parts.OnePart (partFacts l number total part d))
 sheetLasting l number total alert part lasts.OutOfRange = drawn.OutOfRange
 
--- part 0 has no facts of its alert
+-- part 0 has no facts of its own
 abbrev pub sheetOfPart : List ℕ → (total : ℕ) → (alert part : ℕ → Span) → Lookup → CapSheet
 sheetOfPart l total alert part Missing = drawn.NotThere
 sheetOfPart l total alert part (There zero) = sheetWith l alert parts.NoPart
