@@ -98,14 +98,19 @@ fn list(text: &[u8], total: usize) {
     }
 }
 
-fn main() {
-    let mut buffer = [0u8; 262144];
-    let n = io::read_full(STDIN_FILENO, &mut buffer);
-    let answer = reader::read_back(&buffer[..n], 0);
+// Writes what a text reads back as.
+fn read_back(text: &[u8]) {
+    let answer = reader::read_back(text, 0);
     match answer {
-        ReadBack::Count(total) => list(&buffer[..n], total),
+        ReadBack::Count(total) => list(text, total),
         ReadBack::Sheet(total, found) => {}
         ReadBack::NotReadBack(offset) => print_refusal(23, offset as u64),
         ReadBack::NotThere => print_refusal(21, 0),
     }
+}
+
+fn main() {
+    let mut buffer = [0u8; 262144];
+    let n = io::read_full(STDIN_FILENO, &mut buffer);
+    read_back(&buffer[..n]);
 }
