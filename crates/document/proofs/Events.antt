@@ -12,8 +12,8 @@ use Rattle.text.specs.Ascii.{ascii}
 use Rattle.text.specs.Logic.{cond-cases, and-left, eql}
 use Rattle.text.specs.Parts.{startsWith, part}
 use Rattle.text.proofs.Parts.{part-none}
-use Rattle.xml_tags.specs.declared.Found.{Found}
-use Rattle.xml_tags.specs.declared.Found.the-variants.{At, Nothing}
+use Rattle.xml_tags.specs.declared.TagEnd.{TagEnd}
+use Rattle.xml_tags.specs.declared.TagEnd.the-variants.{At, Unended}
 use Rattle.xml_tags.specs.declared.Tail.{Tail}
 use Rattle.xml_tags.specs.declared.Tail.the-variants as tail
 use Rattle.xml_tags.specs.declared.NameSpace.{NameSpace}
@@ -37,7 +37,7 @@ use Rattle.document.specs.declared.Event.the-variants.{Silent, Opened, T
 use Rattle.document.specs.declared.Step.{Step}
 use Rattle.document.specs.declared.Step.the-variants.{Next, Done, Refused}
 use Rattle.document.specs.Elements.{starts, total}
-use Rattle.document.specs.Tags.{moved, maxInfos, afterPrefix, nameIn, ruled, textStep, enterStep, isMisplaced, openStep, emptyStep, otherStep, boundStep, alertStep, isAlert, startStep, closeStep, isRightEnd, endStep, endedStep, foundStep, tagStep}
+use Rattle.document.specs.Tags.{moved, maxInfos, afterPrefix, nameIn, ruled, textStep, enterStep, isMisplaced, openStep, emptyStep, otherStep, boundStep, alertStep, isAlert, startStep, closeStep, isRightEnd, endStep, endedStep, tagEndStep, tagStep}
 use Rattle.document.specs.Constructs.{commentStep, constructStep, afterSpace, stepOf}
 use Rattle.document.specs.Documents.{elementsOf}
 
@@ -202,13 +202,13 @@ module _ (l : List ℕ) (m : Mode) (inside : m .at < length l) where
   end-sound n g (tail.Empty next) p = omega arith
   end-sound n g tail.Fault p = omega arith
 
-  found-sound : (f : Found) → SoundStep l m (foundStep l m f)
+  tag-end-sound : (f : TagEnd) → SoundStep l m (tagEndStep l m f)
   unfolding endedStep
-  found-sound (At e) =
+  tag-end-sound (At e) =
       cases l m (startsWith (ascii "</") (drop (m .at) l)) _ _
       (λ t. let n = tags.nameEnd l (m .at + 2) in end-sound n (omega arith) (tags.tail l n) refl)
       (λ t. start-sound (tags.nameEnd l (m .at + 1)) (omega arith))
-  found-sound Nothing = omega arith
+  tag-end-sound Unended = omega arith
 
   comment-sound : (c : Comment) → comments.comment l (m .at + 4) ≡ c → SoundStep l m (commentStep l m c)
   unfolding starts
@@ -227,7 +227,7 @@ construct-sound l m =
     let h = leb-false (length l) (m .at) t in
     cases l m (startsWith (ascii "<!--") (drop (m .at) l)) _ _ (λ f. comment-sound l m h (comments.comment l (m .at + 4)) refl) λ f.
     cases l m (eqb (getD l (m .at) 0) (code "<")) _ _
-    (λ g. found-sound l m h (tags.tagEnd 0 (m .at + 1) (drop (m .at + 1) l)))
+    (λ g. tag-end-sound l m h (tags.tagEnd 0 (m .at + 1) (drop (m .at + 1) l)))
     (λ g. omega arith)
 
 -- so is a construct after white space

@@ -11,8 +11,8 @@ use Rattle.text.specs.Ascii.{ascii}
 use Rattle.text.specs.Logic.{and-right}
 use Rattle.text.specs.Parts.{startsWith}
 use Rattle.text.proofs.Parts.{starts-append}
-use Rattle.xml_tags.specs.declared.Found.{Found}
-use Rattle.xml_tags.specs.declared.Found.the-variants.{At, Nothing}
+use Rattle.xml_tags.specs.declared.TagEnd.{TagEnd}
+use Rattle.xml_tags.specs.declared.TagEnd.the-variants.{At, Unended}
 use Rattle.xml_tags.specs.Tags as tags
 use Rattle.xml_tags.proofs.Skips.{tag-end-name, tag-end-slash}
 use Rattle.document.specs.declared.Mode.{Mode}
@@ -48,14 +48,14 @@ name-tag-end l at true s = sym (tag-end-name l (at + 1 + 1)) ∙ sym (tag-end-sl
 name-tag-end l at false s = let z : at + 1 + 0 ≡ at + 1 = omega arith in rw z (sym (tag-end-name l (at + 1)))
 
 -- b says whether it is an end tag, n is where its name ends, and f what is found from there on
-module _ (l : List ℕ) (m : Mode) (b : Bool) (n : ℕ) (f : Found)
+module _ (l : List ℕ) (m : Mode) (b : Bool) (n : ℕ) (f : TagEnd)
     (s : b ≡ startsWith (ascii "</") (drop (m .at) l))
     (d : n ≡ tags.nameEnd l (m .at + 1 + boolByte b))
     (e : f ≡ tags.tagEnd 0 n (drop n l)) where
   found-is : f ≡ tags.tagEnd 0 (m .at + 1) (drop (m .at + 1) l)
   found-is = e ∙ (rw d (name-tag-end l (m .at) b (sym s)))
 
-  pub tag-short : f ≡ Nothing → Refused 15 (length l) ≡ tagStep l m
+  pub tag-short : f ≡ Unended → Refused 15 (length l) ≡ tagStep l m
   unfolding tagStep
   tag-short h = rw (← found-is, h)
 

@@ -8,8 +8,8 @@ use lib.ListN.{length, drop}
 use Rattle.text.specs.Ascii.{ascii}
 use Rattle.text.specs.Logic.{eql}
 use Rattle.text.specs.Parts.{startsWith, part}
-use Rattle.xml_tags.specs.declared.Found.{Found}
-use Rattle.xml_tags.specs.declared.Found.the-variants.{At, Nothing}
+use Rattle.xml_tags.specs.declared.TagEnd.{TagEnd}
+use Rattle.xml_tags.specs.declared.TagEnd.the-variants.{At, Unended}
 use Rattle.xml_tags.specs.declared.Tail.{Tail}
 use Rattle.xml_tags.specs.declared.Tail.the-variants as tail
 use Rattle.xml_tags.specs.declared.NameSpace.{NameSpace}
@@ -165,9 +165,9 @@ endedStep l m =
     (startStep l m (tags.nameEnd l (m .at + 1)))
 
 -- "one of these .. without its end .. gives only 15 at the input's length"
-abbrev pub foundStep : List ℕ → Mode → Found → Step
-foundStep l m (At e) = endedStep l m
-foundStep l m Nothing = Refused 15 (length l)
+abbrev pub tagEndStep : List ℕ → Mode → TagEnd → Step
+tagEndStep l m (At e) = endedStep l m
+tagEndStep l m Unended = Refused 15 (length l)
 
 unfoldable pub tagStep : List ℕ → Mode → Step
-tagStep l m = foundStep l m (tags.tagEnd 0 (m .at + 1) (drop (m .at + 1) l))
+tagStep l m = tagEndStep l m (tags.tagEnd 0 (m .at + 1) (drop (m .at + 1) l))

@@ -11,8 +11,8 @@ use crate::names::local_name;
 use crate::names::name_in;
 use crate::names::name_under;
 use schema::class;
-use xml_tags::Found;
 use xml_tags::NameSpace;
+use xml_tags::TagEnd;
 use xml_tags::Tail;
 ghost use mathlib.Core.Path.{_≡_};
 ghost use Prim.Native.Nat.{_<_};
@@ -153,12 +153,12 @@ pub fn tag_step(s: &[u8], m: Mode) -> Step
     let n = xml_tags::ends::name_end(s, m.at + 1 + is_end as usize);
     let end = xml_tags::ends::tag_end(s, n);
     match end {
-        Found::At(e) => {
+        TagEnd::At(e) => {
             if is_end {
                 return end_step(s, m, n);
             }
             start_step(s, m, n)
         }
-        Found::Nothing => Step::Refused(15, s.len()),
+        TagEnd::Unended => Step::Refused(15, s.len()),
     }
 }

@@ -18,7 +18,7 @@ use Rattle.xml_tags.specs.declared.Tail.the-variants as tail
 use Rattle.xml_tags.specs.declared.NameSpace.the-variants as space
 use Rattle.xml_tags.specs.Bytes.{isLetter}
 use Rattle.xml_tags.specs.Tags.{tail}
-use Rattle.xml_tags.specs.Attributes.{quoted, bound, value, equals, prefixed, declared, nameSpace}
+use Rattle.xml_tags.specs.Attributes.{quoted, quotedLength, bound, value, equals, prefixed, declared, nameSpace}
 
 -- ---- tails
 
@@ -58,7 +58,7 @@ module _ (l : List ℕ) (a b next : ℕ) where
   unfolding value
   value-ahead p u at e =
       let t = startsWith (quoted (code "\"")) (drop at l) || startsWith (quoted (code "'")) (drop at l) in
-      omega (arith, tail-open l (at + 38) next (bound-open p u (tail l (at + 38)) (first-arm _ _ _ t e unbound .1)))
+      omega (arith, tail-open l (at + quotedLength) next (bound-open p u (tail l (at + quotedLength)) (first-arm _ _ _ t e unbound .1)))
 
   equals-ahead : (p u at : ℕ) → equals l p u at ≡ space.Bound a b next → (at < next) × (next ≤ length l)
   unfolding equals

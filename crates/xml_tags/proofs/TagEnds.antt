@@ -8,7 +8,7 @@ use native.Mathlib.Numerals.{add-one}
 use lib.Dec.{eqb}
 use lib.ListN.{length, getD, drop, drop-of-length-le}
 use lib.Seq.{drop-cons}
-use Rattle.xml_tags.specs.declared.Found.the-variants.{At, Nothing}
+use Rattle.xml_tags.specs.declared.TagEnd.the-variants.{At, Unended}
 use Rattle.xml_tags.specs.Tags.{quoteAfter, tagEnd}
 
 -- r is the quote after the byte
@@ -23,6 +23,6 @@ module _ (s : List ℕ) (q i : ℕ) where
   unfolding tagEnd
   tag-stop h e = rw (drop-cons s i 0 h, e)
 
-  pub tag-none : length s ≤ i → tagEnd q i (drop i s) ≡ Nothing
+  pub tag-none : length s ≤ i → tagEnd q i (drop i s) ≡ Unended
   unfolding tagEnd
   tag-none h = rw (drop-of-length-le s h)

@@ -8,8 +8,8 @@ use lib.ListN.{drop}
 use Rattle.text.specs.Ascii.{ascii}
 use Rattle.text.specs.Bytes.{spaces, leading}
 use Rattle.text.specs.Parts.{startsWith}
-use Rattle.xml_tags.specs.declared.Found.{Found}
-use Rattle.xml_tags.specs.declared.Found.the-variants.{At, Nothing}
+use Rattle.xml_tags.specs.declared.TagEnd.{TagEnd}
+use Rattle.xml_tags.specs.declared.TagEnd.the-variants.{At, Unended}
 use Rattle.xml_tags.specs.declared.Tail.{Tail}
 use Rattle.xml_tags.specs.declared.Tail.the-variants.{Open, Empty, Fault}
 use Rattle.xml_tags.specs.Bytes.{isTagByte}
@@ -19,8 +19,8 @@ abbrev pub quoteAfter : ℕ → ℕ → ℕ
 quoteAfter q b = cond (eqb q 0) (cond (eqb b (code "\"") || eqb b (code "'")) b 0) (cond (eqb b q) 0 q)
 
 -- "A tag .. runs to the first ">" outside quotes"
-unfoldable pub tagEnd : ℕ → ℕ → List ℕ → Found
-tagEnd q i [] = Nothing
+unfoldable pub tagEnd : ℕ → ℕ → List ℕ → TagEnd
+tagEnd q i [] = Unended
 tagEnd q i (b ∷ l) = cond (eqb q 0 && eqb b (code ">")) (At i) (tagEnd (quoteAfter q b) (i + 1) l)
 
 -- where the name that starts at an offset ends

@@ -1,5 +1,5 @@
 // Where tags and their names end.
-use crate::Found;
+use crate::TagEnd;
 use crate::Tail;
 use crate::bytes::is_tag_byte;
 ghost use mathlib.Core.Path.{_≡_};
@@ -24,7 +24,7 @@ fn quote_after(q: u8, b: u8) -> u8
 }
 
 // Where the tag that goes on at an offset, outside quotes, ends: at the first ">" outside quotes.
-pub fn tag_end(s: &[u8], at: usize) -> Found
+pub fn tag_end(s: &[u8], at: usize) -> TagEnd
     ensures { λ r. ⌜ r ≡ tagEnd 0 at (drop at (now (s .entry))) ⌝ }
 {
     let mut q: u8 = 0;
@@ -32,12 +32,12 @@ pub fn tag_end(s: &[u8], at: usize) -> Found
     while i < s.len() {
         let b = s[i];
         if (q == 0) & (b == b'>') {
-            return Found::At(i);
+            return TagEnd::At(i);
         }
         q = quote_after(q, b);
         i += 1;
     }
-    Found::Nothing
+    TagEnd::Unended
 }
 
 // Where the name that starts at an offset ends.

@@ -4,10 +4,10 @@ pub mod attributes; // attributes.rt: the name space attribute
 mod bytes; // bytes.rt: bytes by their kind
 pub mod ends; // ends.rt: where tags and their names end
 
-// Where something stands, or that it stands nowhere.
-pub enum Found {
+// Where a tag's ">" stands, or that it has none.
+pub enum TagEnd {
     At(usize),
-    Nothing,
+    Unended,
 }
 
 // What ends a tag after its name or attribute: ">" or "/>", with the offset after it, or something else.

@@ -1,4 +1,4 @@
--- The value stands there in one of the two quotes or not; it has 38 bytes.
+-- The value stands there in one of the two quotes or not.
 use native.Mathlib.Omega.{arith}
 use borrow.Author.Needs.{needs}
 use Rattle.xml_tags.specs.Attributes.{value}
