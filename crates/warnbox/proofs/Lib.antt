@@ -1,4 +1,4 @@
 pub mod Pairs
 pub mod Places
-pub mod Writing
+pub mod InText
 mod TableTypes

@@ -3,10 +3,9 @@ use crate::Answer;
 use crate::answers::cap_place_answer;
 use crate::answers::check_answer;
 use crate::answers::refused;
-use crate::answers::write_answer;
+use crate::writing::write_cap_sentence;
 use coordinates::Place;
 use parts::CapSheet;
-use sheet::span_in;
 ghost use mathlib.Core.Path.{_≡_};
 ghost use Rattle.document.specs.Documents.{checkOf};
 ghost use Rattle.parts.specs.Sheets.{capSheet};
@@ -29,13 +28,9 @@ fn write_drawn(buffer: &mut [u8], start: usize, document: &[u8], drawn: CapSheet
     ensures { λ r. ⌜ (r ≡ partSentence (now (buffer .entry)) start (now (document .entry)) drawn) × (now (buffer .exit) ≡ partAfter (now (buffer .entry)) start (now (document .entry)) drawn) ⌝ }
 {
     match drawn {
-        CapSheet::Sheet(facts, sender, name) => write_answer(readback::write_cap(
-            buffer,
-            start,
-            facts,
-            span_in(document, sender),
-            span_in(document, name),
-        )),
+        CapSheet::Sheet(facts, sender, name) => {
+            write_cap_sentence(buffer, start, document, facts, sender, name)
+        }
         CapSheet::NotThere => refused(21, 0),
         CapSheet::OutOfRange => refused(7, 0),
         CapSheet::Refused(number, offset) => refused(number, offset),

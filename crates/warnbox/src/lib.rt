@@ -5,6 +5,7 @@ mod documents; // documents.rt: CAP documents
 mod packets; // packets.rt: WARN packets
 mod sentences; // sentences.rt: writing a sheet, and reading a text back
 pub mod tables; // tables.rt: the event table as the caller lends it
+mod writing; // writing.rt: the sentence of a sheet, the answer as numbers
 
 // What a function gives back: the number of a refusal, 0 for none, and the value.
 pub struct Answer {

@@ -2,7 +2,7 @@
 use crate::Answer;
 use crate::answers::packet_place_answer;
 use crate::answers::refused;
-use crate::answers::write_answer;
+use crate::writing::write_warn_sentence;
 use coordinates::Place;
 use packet::PacketSheet;
 ghost use mathlib.Core.Path.{_≡_};
@@ -15,7 +15,7 @@ fn write_drawn(buffer: &mut [u8], start: usize, drawn: PacketSheet) -> Answer
     ensures { λ r. ⌜ (r ≡ packetSentence (now (buffer .entry)) start drawn) × (now (buffer .exit) ≡ packetAfter (now (buffer .entry)) start drawn) ⌝ }
 {
     match drawn {
-        PacketSheet::Sheet(facts) => write_answer(readback::write_warn(buffer, start, facts)),
+        PacketSheet::Sheet(facts) => write_warn_sentence(buffer, start, facts),
         PacketSheet::Refused(fault) => refused(packet::fault_number(fault), 0),
     }
 }

@@ -2,13 +2,13 @@
 use crate::Answer;
 use crate::answers::read_answer;
 use crate::answers::refused;
-use crate::answers::write_answer;
+use crate::writing::write_cap_sentence;
+use crate::writing::write_warn_sentence;
 use numbers::NumbersSheet;
 use sheet::CapFacts;
 use sheet::Found;
 use sheet::ReadBack;
 use sheet::Span;
-use sheet::span_in;
 ghost use mathlib.Core.Path.{_≡_};
 ghost use Rattle.sheet.specs.declared.Found.the-variants.{Cap};
 ghost use Rattle.sheet.specs.Answers.{readBack};
@@ -40,13 +40,7 @@ fn write_cap_in(
     if !(lies_in(text, sender) & lies_in(text, name)) {
         return refused(23, 0);
     }
-    write_answer(readback::write_cap(
-        buffer,
-        start,
-        facts,
-        span_in(text, sender),
-        span_in(text, name),
-    ))
+    write_cap_sentence(buffer, start, text, facts, sender, name)
 }
 
 // Writes the sentence of a sheet that is handed in with the text it is to stand in.
@@ -55,7 +49,7 @@ fn write_found(buffer: &mut [u8], start: usize, text: &[u8], found: Found) -> An
 {
     match found {
         Found::Cap(facts, sender, name) => write_cap_in(buffer, start, text, facts, sender, name),
-        Found::Warn(facts) => write_answer(readback::write_warn(buffer, start, facts)),
+        Found::Warn(facts) => write_warn_sentence(buffer, start, facts),
     }
 }
 

@@ -2,15 +2,11 @@
 use borrow.Author.Needs.{needs}
 use mathlib.Core.Path.{sym, ap, _∙_}
 use Rattle.warnbox.specs.Sentences.{partSentence, partAfter}
-use Rattle.warnbox.proofs.Writing.{part-written}
 use Rattle.warnbox.proofs.documents.write_drawn.Statement.{statement}
 use Rattle.warnbox.proofs.documents.write_drawn.Tie as tie
 
 returns : tie.Need-returns
-returns c =
-    part-written _ _ _ _ _ (c .write-answer .ensures) _ _ _ _ _ (c .before .before .before .before .before .before .before .before .drawn .given .1)
-    _ _ (c .before .before .before .before .before .span-in .ensures) (c .before .before .before .before .span-in2 .ensures)
-    (c .before .before .before .write-cap .ensures)
+returns c = rw (c .before .before .before .before .before .drawn .given .1) (c .before .before .write-cap-sentence .ensures)
 
 returns-2 : tie.Need-returns-2
 returns-2 c = (
@@ -33,6 +29,5 @@ returns-4 c = (
 pub write-drawn-spec : {M : Type 1} → statement M
 write-drawn-spec =
     tie.close
-    (tie.spec (λ c. search needs) (λ c κs. search needs) (λ c κs. search needs) (λ c κs. search needs) (λ c κs. search needs) (λ c. search needs)
-    (λ c κs. search needs) (λ c. search needs) (λ c κs. search needs) (λ c. search needs) (λ c κs. search needs) (λ c. search needs) returns
-    returns-2 returns-3 returns-4)
+    (tie.spec (λ c. search needs) (λ c κs. search needs) (λ c. search needs) (λ c κs. search needs) (λ c. search needs) (λ c κs. search needs)
+    (λ c. search needs) (λ c κs. search needs) (λ c. search needs) returns returns-2 returns-3 returns-4)

@@ -4,14 +4,11 @@ use mathlib.Core.Path.{sym, ap, _∙_}
 use Prim.Native.Nat.{ℕ}
 use Rattle.warnbox.specs.Answers.{refused}
 use Rattle.warnbox.specs.Sentences.{packetSentence, packetAfter}
-use Rattle.warnbox.proofs.Writing.{packet-written}
 use Rattle.warnbox.proofs.packets.write_drawn.Statement.{statement}
 use Rattle.warnbox.proofs.packets.write_drawn.Tie as tie
 
 returns : tie.Need-returns
-returns c =
-    packet-written _ _ _ _ _ (c .write-answer .ensures) _ _ (c .before .before .before .before .before .before .drawn .given .1)
-    (c .before .before .before .write-warn .ensures)
+returns c = rw (c .before .before .before .before .before .drawn .given .1) (c .before .before .write-warn-sentence .ensures)
 
 returns-2 : tie.Need-returns-2
 returns-2 c = (
@@ -23,5 +20,5 @@ returns-2 c = (
 pub write-drawn-spec : {M : Type 1} → statement M
 write-drawn-spec =
     tie.close
-    (tie.spec (λ c. search needs) (λ c κs. search needs) (λ c κs. search needs) (λ c. search needs) (λ c κs. search needs) (λ c κs. search needs)
-    (λ c. search needs) returns returns-2)
+    (tie.spec (λ c. search needs) (λ c κs. search needs) (λ c. search needs) (λ c κs. search needs) (λ c κs. search needs) (λ c. search needs) returns
+    returns-2)

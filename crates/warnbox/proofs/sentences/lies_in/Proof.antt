@@ -1,6 +1,6 @@
 -- A part that starts past the end is none; else what it takes must fit after its start.
 use borrow.Author.Needs.{needs}
-use Rattle.warnbox.proofs.Writing.{starts-past, fits-after}
+use Rattle.warnbox.proofs.InText.{starts-past, fits-after}
 use Rattle.warnbox.proofs.sentences.lies_in.Statement.{statement}
 use Rattle.warnbox.proofs.sentences.lies_in.Tie as tie
 

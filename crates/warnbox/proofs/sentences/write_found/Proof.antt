@@ -1,6 +1,7 @@
 -- By the kind of the sheet.
 use borrow.Author.Needs.{needs}
-use Rattle.warnbox.proofs.Writing.{warn-written}
+use Rattle.sheet.specs.Reading.{sheetIn}
+use Rattle.warnbox.specs.Sentences.{foundSentence, foundAfter}
 use Rattle.warnbox.proofs.sentences.write_found.Statement.{statement}
 use Rattle.warnbox.proofs.sentences.write_found.Tie as tie
 
@@ -8,12 +9,11 @@ returns : tie.Need-returns
 returns c = rw (c .before .before .before .before .before .found .given .1) (c .before .before .write-cap-in .ensures)
 
 returns-2 : tie.Need-returns-2
-returns-2 c =
-    rw (c .before .before .before .before .before .before .found2 .given .1)
-    (warn-written _ _ _ _ _ _ (c .write-answer .ensures) _ (c .before .before .before .write-warn .ensures))
+unfolding foundSentence foundAfter sheetIn
+returns-2 c = rw (c .before .before .before .before .before .found2 .given .1) (c .before .before .write-warn-sentence .ensures)
 
 pub write-found-spec : {M : Type 1} → statement M
 write-found-spec =
     tie.close
-    (tie.spec (λ c. search needs) (λ c κs. search needs) (λ c. search needs) (λ c κs. search needs) (λ c κs. search needs) (λ c. search needs) returns
-    (λ c. search needs) returns-2)
+    (tie.spec (λ c. search needs) (λ c κs. search needs) (λ c. search needs) (λ c κs. search needs) (λ c. search needs) returns (λ c. search needs)
+    returns-2)

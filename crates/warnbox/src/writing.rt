@@ -1,0 +1,39 @@
+// Writing the sentence of a sheet, with the answer as numbers.
+use crate::Answer;
+use crate::answers::write_answer;
+use sheet::CapFacts;
+use sheet::Span;
+use sheet::WarnFacts;
+use sheet::span_in;
+ghost use mathlib.Core.Path.{_≡_};
+ghost use Rattle.sheet.specs.Sheet.{cap, warn};
+ghost use Rattle.sheet.specs.Reading.{spanIn};
+ghost use Rattle.sheet.specs.Answers.{writeSheet, after};
+ghost use Rattle.warnbox.specs.Answers.{writeAnswer};
+
+// Writes the sentence of a CAP sheet, whose sender and name are parts of a text.
+pub fn write_cap_sentence(
+    buffer: &mut [u8],
+    start: usize,
+    text: &[u8],
+    facts: CapFacts,
+    sender: Span,
+    name: Span,
+) -> Answer
+    ensures { λ r. ⌜ (r ≡ writeAnswer (writeSheet (now (buffer .entry)) start (cap facts (spanIn (now (text .entry)) sender) (spanIn (now (text .entry)) name)))) × (now (buffer .exit) ≡ after (now (buffer .entry)) start (cap facts (spanIn (now (text .entry)) sender) (spanIn (now (text .entry)) name))) ⌝ }
+{
+    write_answer(readback::write_cap(
+        buffer,
+        start,
+        facts,
+        span_in(text, sender),
+        span_in(text, name),
+    ))
+}
+
+// Writes the sentence of a WARN sheet.
+pub fn write_warn_sentence(buffer: &mut [u8], start: usize, facts: WarnFacts) -> Answer
+    ensures { λ r. ⌜ (r ≡ writeAnswer (writeSheet (now (buffer .entry)) start (warn facts))) × (now (buffer .exit) ≡ after (now (buffer .entry)) start (warn facts)) ⌝ }
+{
+    write_answer(readback::write_warn(buffer, start, facts))
+}
