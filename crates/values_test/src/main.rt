@@ -2,7 +2,6 @@
 // A case is a letter for its kind, a text, '#' and a line feed. tests/values.py writes the cases
 // and, from other sources, the answers.
 use buffer::WriteText;
-use circle::Circle;
 use coordinates::Degrees;
 use coordinates::Inclusion;
 use coordinates::Pair;
