@@ -4,11 +4,12 @@ use mathlib.Core.List.{List, [], _∷_, _++_}
 use Prim.Native.Nat.{ℕ, zero, suc, _≤_}
 use native.Mathlib.Omega.{arith}
 use lib.ListN.{length}
+use Rattle.text.specs.Answers.{Answer, gives, refuses}
 use Rattle.document.specs.declared.Mode.{Mode}
 use Rattle.document.specs.declared.Event.{Event}
 use Rattle.document.specs.declared.Step.{Step}
 use Rattle.document.specs.declared.Step.the-variants.{Next, Done, Refused}
-use Rattle.document.specs.Elements.{Element, Verdict, accepted, refused, given}
+use Rattle.document.specs.Elements.{Element, given}
 use Rattle.document.specs.Constructs.{stepOf}
 use Rattle.document.specs.Documents.{elementsOf, begin, after, run, readFrom, documentOf}
 use Rattle.document.proofs.Events.{refusal}
@@ -19,13 +20,13 @@ module _ (l : List ℕ) (Q : Mode → List Element → Type 0)
     (last : (m : Mode) → stepOf l m ≡ Done → Q m [])
     (front : (m m′ : Mode) (e : Event) (es : List Element) → stepOf l m ≡ Next m′ e → Q m′ es → Q m (elementsOf l e ++ es)) where
   -- of a verdict from a mode on: of its elements, or its offset lies in the document or at its length
-  abbrev VerdictHolds : Mode → Verdict → Type 0
-  VerdictHolds m (accepted es) = Q m es
-  VerdictHolds m (refused n p) = p ≤ length l
+  abbrev VerdictHolds : Mode → Answer (List Element) → Type 0
+  VerdictHolds m (gives es) = Q m es
+  VerdictHolds m (refuses n p) = p ≤ length l
 
-  given-holds : (m m′ : Mode) (e : Event) (v : Verdict) → stepOf l m ≡ Next m′ e → VerdictHolds m′ v → VerdictHolds m (given (elementsOf l e) v)
-  given-holds m m′ e (accepted es) p h = front m m′ e es p h
-  given-holds m m′ e (refused n q) p h = h
+  given-holds : (m m′ : Mode) (e : Event) (v : Answer (List Element)) → stepOf l m ≡ Next m′ e → VerdictHolds m′ v → VerdictHolds m (given (elementsOf l e) v)
+  given-holds m m′ e (gives es) p h = front m m′ e es p h
+  given-holds m m′ e (refuses n q) p h = h
 
   run-holds : (n : ℕ) (m : Mode) → VerdictHolds m (run n l m)
   unfolding run
@@ -38,9 +39,9 @@ module _ (l : List ℕ) (Q : Mode → List Element → Type 0)
       go (Refused a b) p rest = refusal l m a b p
 
   -- of the whole document, whose first construct may stand anywhere
-  abbrev DocumentHolds : Verdict → Type 0
-  DocumentHolds (accepted es) = (at : ℕ) × Q (begin at) es
-  DocumentHolds (refused n p) = p ≤ length l
+  abbrev DocumentHolds : Answer (List Element) → Type 0
+  DocumentHolds (gives es) = (at : ℕ) × Q (begin at) es
+  DocumentHolds (refuses n p) = p ≤ length l
 
   document-holds : DocumentHolds (documentOf l)
   unfolding documentOf
@@ -48,15 +49,15 @@ module _ (l : List ℕ) (Q : Mode → List Element → Type 0)
       first-holds l (λ (r : Step). DocumentHolds (after l (readFrom l) r)) (λ n p h. h)
       (λ at. go at (readFrom l (begin at)) (run-holds (suc (length l)) (begin at)))
     where
-      go : (at : ℕ) (v : Verdict) → VerdictHolds (begin at) v → DocumentHolds (given [] v)
-      go at (accepted es) h = (at, h)
-      go at (refused n p) h = h
+      go : (at : ℕ) (v : Answer (List Element)) → VerdictHolds (begin at) v → DocumentHolds (given [] v)
+      go at (gives es) h = (at, h)
+      go at (refuses n p) h = h
 
-  pub accepted-holds : (es : List Element) → documentOf l ≡ accepted es → (at : ℕ) × Q (begin at) es
+  pub accepted-holds : (es : List Element) → documentOf l ≡ gives es → (at : ℕ) × Q (begin at) es
   accepted-holds es d = subst DocumentHolds d document-holds
 
 -- every refusal's offset lies in the document or at its length
-pub offset-within : (l : List ℕ) (n p : ℕ) → documentOf l ≡ refused n p → p ≤ length l
+pub offset-within : (l : List ℕ) (n p : ℕ) → documentOf l ≡ refuses n p → p ≤ length l
 offset-within l n p d =
     let All : Mode → List Element → Type 0 = λ m es. Prim.Unit in
     subst (DocumentHolds l All (λ m q. tt) (λ m m′ e es q h. tt)) d (document-holds l All (λ m q. tt) (λ m m′ e es q h. tt))
@@ -75,7 +76,7 @@ module _ (P : Element → Type 0) where
   -- what holds of the element of every step holds of every element of an accepted document
   pub accepted-every :
       (l : List ℕ) → ((m m′ : Mode) (e : Event) → stepOf l m ≡ Next m′ e → Every (elementsOf l e))
-      → (es : List Element) → documentOf l ≡ accepted es → Every es
+      → (es : List Element) → documentOf l ≡ gives es → Every es
   accepted-every l each es q =
       accepted-holds l (λ (m : Mode) (xs : List Element). Every xs) (λ m p. tt)
       (λ m m′ e xs p h. every-append (elementsOf l e) xs (each m m′ e p) h)

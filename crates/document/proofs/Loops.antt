@@ -5,13 +5,14 @@ use Prim.Native.Nat.{ℕ, suc, _+_, _-_, _<_}
 use native.Mathlib.Omega.{arith}
 use lib.ListN.{length}
 use Rattle.text.specs.Parts.{part}
+use Rattle.text.specs.Answers.{Answer, gives, refuses}
 use Rattle.document.specs.declared.Mode.{Mode}
 use Rattle.document.specs.declared.Event.{Event}
 use Rattle.document.specs.declared.Event.the-variants.{Silent, Opened, Text, Closed}
 use Rattle.document.specs.declared.Step.{Step}
 use Rattle.document.specs.declared.Step.the-variants.{Next, Done, Refused}
 use Rattle.document.specs.declared.Check.the-variants as check
-use Rattle.document.specs.Elements.{Element, opened, text, closed, Verdict, accepted, refused, given, starts, total, fold, counted, gather, answer}
+use Rattle.document.specs.Elements.{Element, opened, text, closed, given, starts, total, fold, counted, gather, answer}
 use Rattle.document.specs.Constructs.{stepOf}
 use Rattle.document.specs.Documents.{elementsOf, firstStep, after, readFrom, documentOf, checked, checkOf}
 use Rattle.document.proofs.Events.{SoundStep, step-sound}
@@ -64,12 +65,12 @@ module _ {F R : Type 0} (done : ℕ → F → R) (stop : ℕ → ℕ → R) (not
       rw z (gather-append (counted k x) (note (counted k x) f x) xs ys)
 
   given-answer :
-      (k : ℕ) (f : F) (es : List Element) (v : Verdict)
+      (k : ℕ) (f : F) (es : List Element) (v : Answer (List Element))
       → answer done stop note k f (given es v) ≡ answer done stop note (k + total es) (gather note k f es) v
-  given-answer k f es (accepted xs) =
+  given-answer k f es (gives xs) =
       let z : k + total (es ++ xs) ≡ k + total es + total xs = omega (arith, starts-append 2 es xs) in
       rw (z, gather-append k f es xs) refl
-  given-answer k f es (refused n p) = refl
+  given-answer k f es (refuses n p) = refl
 
   -- an event has one element at most
   gather-one : (k n : ℕ) (f : F) (x : Element) → n ≡ k + total (x ∷ []) → gather note k f (x ∷ []) ≡ fold (note n) f (x ∷ [])
@@ -86,7 +87,7 @@ module _ {F R : Type 0} (done : ℕ → F → R) (stop : ℕ → ℕ → R) (not
   gather-event l k n f (Closed c) q = gather-one k n f (closed c) q
 
   event-answer :
-      (l : List ℕ) (k n : ℕ) (f : F) (e : Event) (v : Verdict) → n ≡ k + total (elementsOf l e)
+      (l : List ℕ) (k n : ℕ) (f : F) (e : Event) (v : Answer (List Element)) → n ≡ k + total (elementsOf l e)
       → answer done stop note n (fold (note n) f (elementsOf l e)) v ≡ answer done stop note k f (given (elementsOf l e) v)
   event-answer l k n f e v q = rw (← gather-event l k n f e q, q) (sym (given-answer k f (elementsOf l e) v))
 
@@ -123,9 +124,9 @@ module _ {F R : Type 0} {done : ℕ → F → R} {stop : ℕ → ℕ → R} {not
 
 -- ---- a check gathers nothing
 
-check-answer : (v : Verdict) → answer (λ (n : ℕ) (u : Prim.Unit {0}). check.Accepted n) check.Refused (λ n u x. u) 0 tt v ≡ checked v
-check-answer (accepted es) = ap check.Accepted (omega arith)
-check-answer (refused n p) = refl
+check-answer : (v : Answer (List Element)) → answer (λ (n : ℕ) (u : Prim.Unit {0}). check.Accepted n) check.Refused (λ n u x. u) 0 tt v ≡ checked v
+check-answer (gives es) = ap check.Accepted (omega arith)
+check-answer (refuses n p) = refl
 
 abbrev pub Checks : List ℕ → Step → ℕ → Type 0
 Checks l step k = Reads (λ (n : ℕ) (u : Prim.Unit {0}). check.Accepted n) check.Refused (λ n u x. u) l (checkOf l) step k tt

@@ -7,6 +7,7 @@ use native.Mathlib.Omega.{arith}
 use borrow.Author.Tests.{eqb-true, eq-eqb}
 use lib.Dec.{eqb, ltb}
 use Rattle.text.specs.Logic.{by-test}
+use Rattle.text.specs.Answers.{gives}
 use Rattle.schema.specs.Classes as class
 use Rattle.schema.specs.Sequences.{nextOf, containerOf, firstState, before, over, classes}
 use Rattle.schema.proofs.Alerts.{alert-before, never-before, Only, only-alert, only-identifier, only-sender}
@@ -14,7 +15,7 @@ use Rattle.document.specs.declared.Mode.{Mode}
 use Rattle.document.specs.declared.Event.{Event}
 use Rattle.document.specs.declared.Event.the-variants.{Silent, Opened, Text, Closed}
 use Rattle.document.specs.declared.Step.the-variants.{Next, Done}
-use Rattle.document.specs.Elements.{Element, opened, text, closed, accepted, starts, total}
+use Rattle.document.specs.Elements.{Element, opened, text, closed, starts, total}
 use Rattle.document.specs.Tags.{maxInfos}
 use Rattle.document.specs.Constructs.{stepOf}
 use Rattle.document.specs.Documents.{elementsOf, documentOf}
@@ -36,7 +37,7 @@ event-follows l state next (Opened c p) es r t = rw r
 event-follows l state next (Text c from until) es r t = rw r
 event-follows l state next (Closed c) es r t = rw (r, eq-eqb c (containerOf state) t)
 
-pub follows-schema : (l : List ℕ) (es : List Element) → documentOf l ≡ accepted es → follow before es ≡ over
+pub follows-schema : (l : List ℕ) (es : List Element) → documentOf l ≡ gives es → follow before es ≡ over
 unfolding follow
 follows-schema l es d =
     accepted-holds l (λ (m : Mode) (xs : List Element). follow (m .state) xs ≡ over) (ended l)
@@ -99,7 +100,7 @@ module _ (P : List Element → Type 0) where
 pub first-elements :
     (P : List Element → Type 0)
     → ((p q r : ℕ) (t u : List ℕ) (xs : List Element) → P (opened class.alert p ∷ text class.identifier q t ∷ text class.sender r u ∷ xs))
-    → (l : List ℕ) (es : List Element) → documentOf l ≡ accepted es → P es
+    → (l : List ℕ) (es : List Element) → documentOf l ≡ gives es → P es
 first-elements P f l es d =
     alert-first P
     (λ p.
@@ -125,7 +126,7 @@ no-alert state (opened c p ∷ es) n h =
 no-alert state (text c p t ∷ es) n h = omega (arith, no-alert (nextOf state c) es (never-before state c) h)
 no-alert state (closed c ∷ es) n h = omega (arith, no-alert (nextOf state 0) es (never-before state 0) (ended-right state c es h))
 
-pub one-alert : (l : List ℕ) (es : List Element) → documentOf l ≡ accepted es → starts class.alert es ≡ 1
+pub one-alert : (l : List ℕ) (es : List Element) → documentOf l ≡ gives es → starts class.alert es ≡ 1
 unfolding starts
 one-alert l es d =
     alert-first (λ (xs : List Element). starts class.alert xs ≡ 1)
@@ -138,7 +139,7 @@ one-alert l es d =
 abbrev Limited : Mode → List Element → Type 0
 Limited m es = m .infos ≤ maxInfos → m .infos + total es ≤ maxInfos
 
-pub parts-limit : (l : List ℕ) (es : List Element) → documentOf l ≡ accepted es → total es ≤ 16
+pub parts-limit : (l : List ℕ) (es : List Element) → documentOf l ≡ gives es → total es ≤ 16
 unfolding starts
 parts-limit l es p =
     let h : 0 + total es ≤ 16 = accepted-holds l Limited last front es p .1 (omega arith) in

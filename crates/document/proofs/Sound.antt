@@ -7,12 +7,13 @@ use native.Mathlib.Omega.{arith}
 use lib.ListN.{length, drop, length-drop}
 use lib.Seq.{length-take-le}
 use Rattle.text.specs.Parts.{part}
+use Rattle.text.specs.Answers.{gives}
 use Rattle.xml.specs.Texts.{isFault}
 use Rattle.schema.specs.Classes as class
 use Rattle.rules.specs.Texts.{textRule}
 use Rattle.document.specs.declared.Event.{Event}
 use Rattle.document.specs.declared.Event.the-variants.{Silent, Opened, Text, Closed}
-use Rattle.document.specs.Elements.{Element, opened, text, closed, accepted}
+use Rattle.document.specs.Elements.{Element, opened, text, closed}
 use Rattle.document.specs.Documents.{elementsOf, documentOf}
 use Rattle.document.proofs.Events.{Whole, SoundEvent, onward}
 use Rattle.document.proofs.Accepted.{Every, accepted-every}
@@ -36,7 +37,7 @@ module _ (l : List ℕ) (P : Element → Type 0)
   event-every state (Text c from until) h = (of-text c from until h, tt)
   event-every state (Closed c) h = (of-end c, tt)
 
-  pub all-hold : (es : List Element) → documentOf l ≡ accepted es → Every P es
+  pub all-hold : (es : List Element) → documentOf l ≡ gives es → Every P es
   all-hold = accepted-every P l (λ m m′ e p. event-every (m .state) e (onward l m m′ e p .event))
 
 -- ---- every text keeps to its rule
@@ -46,7 +47,7 @@ Ruled (opened c p) = Prim.Unit
 Ruled (text c p t) = textRule c t ≡ 0
 Ruled (closed c) = Prim.Unit
 
-pub all-ruled : (l : List ℕ) (es : List Element) → documentOf l ≡ accepted es → Every Ruled es
+pub all-ruled : (l : List ℕ) (es : List Element) → documentOf l ≡ gives es → Every Ruled es
 all-ruled l = all-hold l Ruled (λ c p h. tt) (λ c from until w. w .rule) (λ c. tt)
 
 -- ---- every text is a part of the document
@@ -61,7 +62,7 @@ whole-shown l c from until w =
     let e = part-length l from until (w .ordered) (w .inside) in
     (ap (part l from) (sym e), rw e (w .inside))
 
-pub all-shown : (l : List ℕ) (es : List Element) → documentOf l ≡ accepted es → Every (Shown l) es
+pub all-shown : (l : List ℕ) (es : List Element) → documentOf l ≡ gives es → Every (Shown l) es
 all-shown l = all-hold l (Shown l) (λ c p h. tt) (whole-shown l) (λ c. tt)
 
 -- ---- no text has a fault of form
@@ -74,7 +75,7 @@ Clean l (closed c) = Prim.Unit
 pub whole-clean : (l : List ℕ) (c from until : ℕ) → Whole l c from until → Clean l (text c from (part l from until))
 whole-clean l c from until w i h k = w .clean i h (rw (part-length l from until (w .ordered) (w .inside)) at k)
 
-pub all-clean : (l : List ℕ) (es : List Element) → documentOf l ≡ accepted es → Every (Clean l) es
+pub all-clean : (l : List ℕ) (es : List Element) → documentOf l ≡ gives es → Every (Clean l) es
 all-clean l = all-hold l (Clean l) (λ c p h. tt) (whole-clean l) (λ c. tt)
 
 -- ---- containers start, leaves have texts
@@ -84,5 +85,5 @@ Sorted (opened c p) = c ≤ class.lastContainer
 Sorted (text c p t) = class.lastContainer < c
 Sorted (closed c) = Prim.Unit
 
-pub all-sorted : (l : List ℕ) (es : List Element) → documentOf l ≡ accepted es → Every Sorted es
+pub all-sorted : (l : List ℕ) (es : List Element) → documentOf l ≡ gives es → Every Sorted es
 all-sorted l = all-hold l Sorted (λ c p h. h) (λ c from until w. w .leaf) (λ c. tt)

@@ -5,6 +5,7 @@ use Prim.Native.Nat.{ℕ, zero, suc}
 use lib.Dec.{ltb}
 use lib.ListN.{length}
 use Rattle.text.specs.Parts.{part}
+use Rattle.text.specs.Answers.{Answer, gives, refuses}
 use Rattle.xml.specs.declared.Prolog.{Prolog}
 use Rattle.xml.specs.declared.Prolog.the-variants as prolog
 use Rattle.xml.specs.Opening as opening
@@ -16,7 +17,7 @@ use Rattle.document.specs.declared.Step.{Step}
 use Rattle.document.specs.declared.Step.the-variants.{Next, Done, Refused}
 use Rattle.document.specs.declared.Check.{Check}
 use Rattle.document.specs.declared.Check.the-variants as check
-use Rattle.document.specs.Elements.{Element, opened, text, closed, Verdict, accepted, refused, given, total}
+use Rattle.document.specs.Elements.{Element, opened, text, closed, given, total}
 use Rattle.document.specs.Constructs.{stepOf}
 
 -- the element that an event tells of
@@ -43,28 +44,28 @@ unfoldable pub firstStep : List ℕ → Step
 firstStep l = cond (ltb maxLength (length l)) (Refused 14 0) (prologStep (opening.prolog l))
 
 -- a step, and the rest of the document by what comes after it
-abbrev pub after : List ℕ → (Mode → Verdict) → Step → Verdict
+abbrev pub after : List ℕ → (Mode → Answer (List Element)) → Step → Answer (List Element)
 after l rest (Next m e) = given (elementsOf l e) (rest m)
-after l rest Done = accepted []
-after l rest (Refused n p) = refused n p
+after l rest Done = gives []
+after l rest (Refused n p) = refuses n p
 
 -- the constructs from a mode on, at most n
-unfoldable pub run : ℕ → List ℕ → Mode → Verdict
-run zero l m = refused 15 (length l)
+unfoldable pub run : ℕ → List ℕ → Mode → Answer (List Element)
+run zero l m = refuses 15 (length l)
 run (suc n) l m = after l (run n l) (stepOf l m)
 
 -- each construct takes a byte at least, so one more than there are bytes is enough
-abbrev pub readFrom : List ℕ → Mode → Verdict
+abbrev pub readFrom : List ℕ → Mode → Answer (List Element)
 readFrom l m = run (suc (length l)) l m
 
 -- "14 for length first, then strictly left to right"
-unfoldable pub documentOf : List ℕ → Verdict
+unfoldable pub documentOf : List ℕ → Answer (List Element)
 documentOf l = after l (readFrom l) (firstStep l)
 
 -- the answer to checking a document: accepted with the number of parts, or refused with number and place
-abbrev pub checked : Verdict → Check
-checked (accepted es) = check.Accepted (total es)
-checked (refused n p) = check.Refused n p
+abbrev pub checked : Answer (List Element) → Check
+checked (gives es) = check.Accepted (total es)
+checked (refuses n p) = check.Refused n p
 
 unfoldable pub checkOf : List ℕ → Check
 checkOf l = checked (documentOf l)

@@ -4,6 +4,7 @@ use mathlib.Core.List.{List, [], _∷_, _++_}
 use Prim.Native.Nat.{ℕ, _+_}
 use lib.Dec.{eqb}
 use mir.Val.{boolByte}
+use Rattle.text.specs.Answers.{Answer, gives, refuses}
 use Rattle.schema.specs.Classes as class
 
 -- a container's start tag at an offset; a leaf's text, from the byte after its start tag on; a container's end
@@ -12,15 +13,10 @@ pub data Element : Type 0 where
   text : (class offset : ℕ) (bytes : List ℕ) → Element
   closed : (class : ℕ) → Element
 
--- "A refusal gives the number and a place"
-pub data Verdict : Type 0 where
-  accepted : (elements : List Element) → Verdict
-  refused : (number offset : ℕ) → Verdict
-
--- elements in front of those of a verdict
-abbrev pub given : List Element → Verdict → Verdict
-given es (accepted xs) = accepted (es ++ xs)
-given es (refused n p) = refused n p
+-- elements in front of those of an answer
+abbrev pub given : List Element → Answer (List Element) → Answer (List Element)
+given es (gives xs) = gives (es ++ xs)
+given es (refuses n p) = refuses n p
 
 abbrev pub isStart : ℕ → Element → Bool
 isStart c (opened d p) = eqb d c
@@ -51,7 +47,7 @@ unfoldable pub gather : {F : Type 0} → (ℕ → F → Element → F) → ℕ �
 gather note k f [] = f
 gather note k f (x ∷ xs) = gather note (counted k x) (note (counted k x) f x) xs
 
--- an answer by a verdict: by the number of parts and the facts gathered, or by the refusal's number and place
-abbrev pub answer : {F R : Type 0} → (ℕ → F → R) → (ℕ → ℕ → R) → (ℕ → F → Element → F) → ℕ → F → Verdict → R
-answer done stop note k f (accepted es) = done (k + total es) (gather note k f es)
-answer done stop note k f (refused n p) = stop n p
+-- an answer by that of a document: by the number of parts and the facts gathered, or by the refusal's number and place
+abbrev pub answer : {F R : Type 0} → (ℕ → F → R) → (ℕ → ℕ → R) → (ℕ → F → Element → F) → ℕ → F → Answer (List Element) → R
+answer done stop note k f (gives es) = done (k + total es) (gather note k f es)
+answer done stop note k f (refuses n p) = stop n p

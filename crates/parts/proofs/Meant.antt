@@ -3,13 +3,14 @@ use mathlib.Core.Path.{_≡_, refl, ap, _∙_}
 use mathlib.Core.List.{List}
 use Prim.Native.Nat.{ℕ, zero, suc, _+_, _-_, _≤_, _<_}
 use native.Mathlib.Omega.{arith}
+use Rattle.text.specs.Answers.{Answer, gives, refuses}
 use Rattle.coordinates.specs.declared.Place.{Place}
 use Rattle.sheet.specs.declared.Lasting.{Lasting}
 use Rattle.sheet.specs.declared.Parts.{Parts}
 use Rattle.sheet.specs.declared.Parts.the-variants as parts
 use Rattle.sheet.specs.declared.Span.{Span}
 use Rattle.schema.specs.Classes as class
-use Rattle.document.specs.Elements.{Verdict, accepted, refused, total, gather, answer}
+use Rattle.document.specs.Elements.{Element, total, gather, answer}
 use Rattle.document.specs.Tags.{maxInfos}
 use Rattle.document.specs.Documents.{documentOf}
 use Rattle.document.proofs.Schema.{parts-limit}
@@ -93,11 +94,11 @@ pub reading-sheet : (n : ℕ) (l : List ℕ) (r : Reading) (o : Outcome) → r �
 unfolding readingOf capSheet
 reading-sheet n l r o e q = rw (← q, e) (go (documentOf l) refl)
   where
-    reading : Verdict → Reading
+    reading : Answer (List Element) → Reading
     reading v = answer acceptedWith refusedWith (noted n) 0 noFacts v
 
-    go : (v : Verdict) → documentOf l ≡ v → SheetBy l n (sheetFrom l n v) (reading v .facts) (reading v .outcome)
-    go (accepted es) d =
+    go : (v : Answer (List Element)) → documentOf l ≡ v → SheetBy l n (sheetFrom l n v) (reading v .facts) (reading v .outcome)
+    go (gives es) d =
         let z : 0 + total es ≡ total es = omega arith in
         let f = gather (noted n) 0 noFacts es in (
           omega (arith, parts-limit l es d),
@@ -105,7 +106,7 @@ reading-sheet n l r o e q = rw (← q, e) (go (documentOf l) refl)
               (sheet-same l (total es) (alertSpan f) (partSpan f) (textSpan (alertOf es)) (textSpan (partOf n es)) (alert-kept n es) (part-kept n es)
               (lookUp n (total es))),
         )
-    go (refused k p) d = refl
+    go (refuses k p) d = refl
 
 -- ---- places
 
@@ -118,6 +119,6 @@ pub view-place : (n : ℕ) (p : Place) (l : List ℕ) (v r : View) → v ≡ vie
 unfolding viewOf capPlace
 view-place n p l v r e q = rw (← q, e) (go (documentOf l))
   where
-    go : (d : Verdict) → PlaceBy p n (placedFrom p n d) (answer view.Accepted view.Refused (seen n p) 0 noShapes d)
-    go (accepted es) = let z : 0 + total es ≡ total es = omega arith in rw (z, any-kept p n es, inside-kept p n es)
-    go (refused k q) = refl
+    go : (d : Answer (List Element)) → PlaceBy p n (placedFrom p n d) (answer view.Accepted view.Refused (seen n p) 0 noShapes d)
+    go (gives es) = let z : 0 + total es ≡ total es = omega arith in rw (z, any-kept p n es, inside-kept p n es)
+    go (refuses k q) = refl

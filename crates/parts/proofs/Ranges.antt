@@ -8,6 +8,7 @@ use borrow.Author.Tests.{le-leb}
 use lib.IntN.{ℤ, pos, negsuc, natAbs, _-ℤ_}
 use lib.ListN.{length}
 use Rattle.text.specs.Logic.{clash}
+use Rattle.text.specs.Answers.{Answer, gives, refuses}
 use Rattle.words.specs.Duration.{isLasting}
 use Rattle.time.specs.declared.Time.{Time}
 use Rattle.time.specs.declared.Time.the-variants as time
@@ -21,7 +22,7 @@ use Rattle.sheet.specs.declared.Span.{Span}
 use Rattle.sheet.specs.Sheet.{cap, isLastingTime, isParts, inRange}
 use Rattle.sheet.specs.Reading.{spanIn}
 use Rattle.schema.specs.Classes as class
-use Rattle.document.specs.Elements.{Element, Verdict, accepted, refused, total}
+use Rattle.document.specs.Elements.{Element, total}
 use Rattle.document.specs.Documents.{documentOf}
 use Rattle.document.proofs.Schema.{parts-limit}
 use Rattle.parts.specs.declared.Lookup.{Lookup}
@@ -59,7 +60,7 @@ lasting-right (time.Instant s) (time.Instant e) d q = seconds-right (e -ℤ s) d
 abbrev Right : List ℕ → CapFacts → Span → Span → Type 0
 Right l f a b = (isParts (f .parts) ≡ true) × NameIn l a × NameIn l b
 
-module _ (l : List ℕ) (n : ℕ) (es : List Element) (doc : documentOf l ≡ accepted es) (f : CapFacts) (a b : Span) where
+module _ (l : List ℕ) (n : ℕ) (es : List Element) (doc : documentOf l ≡ gives es) (f : CapFacts) (a b : Span) where
   -- a sheet with such a part or none
   sheet-right : (ps : Parts) → isParts ps ≡ true → sheetWith l (textSpan (alertOf es)) ps ≡ drawn.Sheet f a b → Right l f a b
   sheet-right ps h q =
@@ -94,7 +95,7 @@ unfolding capSheet isParts
 drawn-right n l f a b = go (documentOf l) refl
   where
     there :
-        (es : List Element) → documentOf l ≡ accepted es → (part : ℕ → Span) (r : Lookup) → lookUp n (total es) ≡ r
+        (es : List Element) → documentOf l ≡ gives es → (part : ℕ → Span) (r : Lookup) → lookUp n (total es) ≡ r
         → sheetOfPart l (total es) (textSpan (alertOf es)) part r ≡ drawn.Sheet f a b → Right l f a b
     there es doc part Missing h q = clash (cc)
     there es doc part (There zero) h q = sheet-right l n es doc f a b parts.NoPart refl q
@@ -103,9 +104,9 @@ drawn-right n l f a b = go (documentOf l) refl
         let g = there-within n (total es) k h in
         stated-right l (suc k) es doc f a b part (lastsOf l (textSpan (alertOf es)) part) refl (omega arith) (omega arith) q
 
-    go : (v : Verdict) → documentOf l ≡ v → sheetFrom l n v ≡ drawn.Sheet f a b → Right l f a b
-    go (accepted es) doc q = there es doc (textSpan (partOf n es)) (lookUp n (total es)) refl q
-    go (refused k p) doc q = clash (cc)
+    go : (v : Answer (List Element)) → documentOf l ≡ v → sheetFrom l n v ≡ drawn.Sheet f a b → Right l f a b
+    go (gives es) doc q = there es doc (textSpan (partOf n es)) (lookUp n (total es)) refl q
+    go (refuses k p) doc q = clash (cc)
 
 module _ (n : ℕ) (l : List ℕ) (f : CapFacts) (a b : Span) (q : capSheet n l ≡ drawn.Sheet f a b) where
   -- it keeps to the ranges

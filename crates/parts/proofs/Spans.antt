@@ -12,6 +12,7 @@ use lib.Seq.{drop-drop}
 use Rattle.text.specs.Ascii.{ascii}
 use Rattle.text.specs.Logic.{by-test, cond-cases, and-left, and-right}
 use Rattle.text.specs.Parts.{startsWith, part}
+use Rattle.text.specs.Answers.{gives}
 use Rattle.xml.specs.Bytes.{isControl}
 use Rattle.xml.specs.Texts.{isReference, isFault}
 use Rattle.sheet.specs.declared.Span.{Span}
@@ -20,7 +21,7 @@ use Rattle.sheet.specs.Reading.{spanIn}
 use Rattle.schema.specs.Classes as class
 use Rattle.rules.specs.Texts.{nameRule, textRule}
 use Rattle.rules.proofs.Kept.{name-kept, identifier-rule, sender-rule}
-use Rattle.document.specs.Elements.{Element, opened, text, closed, isStart, accepted, fold}
+use Rattle.document.specs.Elements.{Element, opened, text, closed, isStart, fold}
 use Rattle.document.specs.Documents.{documentOf}
 use Rattle.document.proofs.Accepted.{Every}
 use Rattle.document.proofs.Schema.{first-elements}
@@ -85,7 +86,7 @@ module _ (l : List ℕ) (c : ℕ) (rule : (t : List ℕ) → textRule c t ≡ na
         right = rw (g, z, le-leb 1 (length t) (k .0), le-leb (length t) 128 (k .1 .0), k .1 .1);
       }
 
-  all-good : (es : List Element) → documentOf l ≡ accepted es → Every Good es
+  all-good : (es : List Element) → documentOf l ≡ gives es → Every Good es
   all-good =
       all-hold l Good (λ d p h. tt)
       (λ d from until w. text-good d from (part l from until) (w .rule) (whole-shown l d from until w) (whole-clean l d from until w)) (λ d. tt)
@@ -110,7 +111,7 @@ module _ (l : List ℕ) (c : ℕ) (rule : (t : List ℕ) → textRule c t ≡ na
 
 -- ---- the sender and the identifier
 
-module _ (l : List ℕ) (es : List Element) (d : documentOf l ≡ accepted es) where
+module _ (l : List ℕ) (es : List Element) (d : documentOf l ≡ gives es) where
   -- by the first elements, one of which is a text of the class
   alert-name :
       (c : ℕ) (rule : (t : List ℕ) → textRule c t ≡ nameRule t)

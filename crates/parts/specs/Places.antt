@@ -3,6 +3,7 @@ use mathlib.Core.Bool.{Bool, true, false, cond, _||_}
 use mathlib.Core.List.{List, [], _∷_}
 use Prim.Native.Nat.{ℕ}
 use lib.Dec.{eqb}
+use Rattle.text.specs.Answers.{Answer, gives, refuses}
 use Rattle.coordinates.specs.declared.Place.{Place}
 use Rattle.coordinates.specs.declared.Inclusion.{Inclusion}
 use Rattle.coordinates.specs.declared.Inclusion.the-variants as inclusion
@@ -10,7 +11,7 @@ use Rattle.coordinates.specs.Place.{inRange}
 use Rattle.polygon.specs.Polygon.{polygonHolds}
 use Rattle.circle.specs.Circle.{circleHolds}
 use Rattle.schema.specs.Classes as class
-use Rattle.document.specs.Elements.{Element, opened, text, closed, Verdict, accepted, refused, total}
+use Rattle.document.specs.Elements.{Element, opened, text, closed, total}
 use Rattle.document.specs.Documents.{documentOf}
 use Rattle.parts.specs.declared.Lookup.{Lookup}
 use Rattle.parts.specs.declared.Lookup.the-variants.{There, Missing}
@@ -53,9 +54,9 @@ abbrev pub placedInPart : Place → (holds any : Bool) → Lookup → CapPlace
 placedInPart p holds any Missing = placed.NotThere
 placedInPart p holds any (There n) = cond (inRange p) (placedAmong holds any) placed.OutOfRange
 
-abbrev pub placedFrom : Place → ℕ → Verdict → CapPlace
-placedFrom p n (accepted es) = placedInPart p (anyHolds p (partOf n es)) (anyShape (partOf n es)) (lookUp n (total es))
-placedFrom p n (refused k q) = placed.Refused k q
+abbrev pub placedFrom : Place → ℕ → Answer (List Element) → CapPlace
+placedFrom p n (gives es) = placedInPart p (anyHolds p (partOf n es)) (anyShape (partOf n es)) (lookUp n (total es))
+placedFrom p n (refuses k q) = placed.Refused k q
 
 -- whether the n-th part of the document l holds a place
 unfoldable pub capPlace : ℕ → Place → List ℕ → CapPlace

@@ -3,6 +3,7 @@ use mathlib.Core.Bool.{Bool, false, cond}
 use mathlib.Core.List.{List}
 use Prim.Native.Nat.{ℕ, zero, suc}
 use lib.IntN.{ℤ, pos, negsuc, natAbs, _-ℤ_}
+use Rattle.text.specs.Answers.{Answer, gives, refuses}
 use Rattle.words.specs.Duration.{isLasting}
 use Rattle.time.specs.declared.Time.{Time}
 use Rattle.time.specs.declared.Time.the-variants as time
@@ -16,7 +17,7 @@ use Rattle.sheet.specs.declared.CapFacts.{CapFacts}
 use Rattle.sheet.specs.declared.Span.{Span}
 use Rattle.sheet.specs.Reading.{spanIn}
 use Rattle.schema.specs.Classes as class
-use Rattle.document.specs.Elements.{Verdict, accepted, refused, total}
+use Rattle.document.specs.Elements.{Element, total}
 use Rattle.document.specs.Documents.{documentOf}
 use Rattle.parts.specs.declared.Lookup.{Lookup}
 use Rattle.parts.specs.declared.Lookup.the-variants.{There, Missing}
@@ -87,9 +88,9 @@ sheetOfPart l total alert part Missing = drawn.NotThere
 sheetOfPart l total alert part (There zero) = sheetWith l alert parts.NoPart
 sheetOfPart l total alert part (There (suc n)) = sheetLasting l (suc n) total alert part (lastsOf l alert part)
 
-abbrev pub sheetFrom : List ℕ → ℕ → Verdict → CapSheet
-sheetFrom l n (accepted es) = sheetOfPart l (total es) (textSpan (alertOf es)) (textSpan (partOf n es)) (lookUp n (total es))
-sheetFrom l n (refused k p) = drawn.Refused k p
+abbrev pub sheetFrom : List ℕ → ℕ → Answer (List Element) → CapSheet
+sheetFrom l n (gives es) = sheetOfPart l (total es) (textSpan (alertOf es)) (textSpan (partOf n es)) (lookUp n (total es))
+sheetFrom l n (refuses k p) = drawn.Refused k p
 
 -- the sheet of the n-th part of the document l
 unfoldable pub capSheet : ℕ → List ℕ → CapSheet

@@ -6,11 +6,11 @@ use native.Mathlib.Nat.{zero-add}
 use native.Mathlib.Omega.{arith}
 use borrow.Author.Tests.{lt-ltb, le-ltb}
 use lib.ListN.{length}
+use Rattle.text.specs.Answers.{Answer, gives, refuses}
 use Rattle.buffer.specs.Cursor.{Put}
 use Rattle.buffer.proofs.Room.{put-whole}
 use Rattle.document.specs.declared.Check.{Check}
 use Rattle.document.specs.declared.Check.the-variants as check
-use Rattle.document.specs.Elements.{Verdict, accepted, refused}
 use Rattle.document.specs.Documents.{documentOf, checked, checkOf}
 use Rattle.document.proofs.Schema.{parts-limit}
 use Rattle.sheet.specs.Sentence.{longest}
@@ -28,9 +28,9 @@ check-limit l k q = go (documentOf l) refl q
     count (check.Accepted n) = n
     count (check.Refused n p) = 0
 
-    go : (v : Verdict) → documentOf l ≡ v → checked v ≡ check.Accepted k → k ≤ 16
-    go (accepted es) e c = omega (arith, ap count c, parts-limit l es e)
-    go (refused n p) e c = omega (arith, ap count c)
+    go : (v : Answer (List Element)) → documentOf l ≡ v → checked v ≡ check.Accepted k → k ≤ 16
+    go (gives es) e c = omega (arith, ap count c, parts-limit l es e)
+    go (refuses n p) e c = omega (arith, ap count c)
 
 -- ---- what is written, by the answer to checking
 

@@ -5,6 +5,7 @@ use Prim.Native.Nat.{ℕ}
 use Rattle.text.specs.Ascii.{ascii}
 use Rattle.text.specs.Bytes.{numberFrom}
 use Rattle.text.specs.Parts.{startsWith}
+use Rattle.text.specs.Answers.{gives}
 use Rattle.xml_tags.specs.Tags as tags
 use Rattle.xml_tags.specs.Attributes as attribute
 use Rattle.xml.specs.Comments as comments
@@ -18,7 +19,7 @@ use Rattle.sheet.specs.Sheet.{allNameBytes}
 use Rattle.codes.specs.Lists.{lists, codeOf}
 use Rattle.rules.specs.Texts.{nameRule, codeRule, timeRule, textRule}
 use Rattle.document.specs.declared.Check.the-variants.{Accepted, Refused}
-use Rattle.document.specs.Elements.{opened, text, closed, accepted, starts}
+use Rattle.document.specs.Elements.{opened, text, closed, starts}
 use Rattle.document.specs.Tags.{openStep, emptyStep, boundStep, localName, isAlert, startStep, closeStep, endedStep, tagStep}
 use Rattle.document.specs.Constructs.{constructStep, stepOf}
 use Rattle.document.specs.Documents.{firstStep, run, documentOf, checkOf}
@@ -59,7 +60,7 @@ pub record Samples : Type 0 where
   -- the elements of a document with one part
   pub sample-elements :
       documentOf (start ++ head ++ info ++ end)
-      ≡ accepted
+      ≡ gives
       (opened class.alert 0 ∷ text class.identifier 64 (ascii "A17") ∷ text class.sender 88 (ascii "kiln.example")
       ∷ text class.sent 115 (ascii "2002-05-24T16:49:00-07:00") ∷ text class.status 155 (ascii "Actual")
       ∷ text class.msgType 179 (ascii "Alert") ∷ text class.scope 201 (ascii "Public")
