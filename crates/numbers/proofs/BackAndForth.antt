@@ -7,6 +7,7 @@ use native.Mathlib.Omega.{arith}
 use lib.Dec.{eqb, ltb, leb}
 use borrow.Author.Tests.{leb-true, lt-ltb, ne-eqb, not-true}
 use Rattle.text.specs.Logic.{and-left, and-right, and-comm}
+use Rattle.text.specs.Answers.{gives}
 use Rattle.words.specs.Duration.{isLasting}
 use Rattle.codes.specs.declared.MessageType.{MessageType}
 use Rattle.codes.specs.declared.Status.{Status}
@@ -26,7 +27,6 @@ use Rattle.codes.proofs.Numbers.{message-numbers, status-numbers, scope-numbers
 use Rattle.sheet.specs.Sheet.{warn, isLastingTime, isParts, fitsPacket, inRange}
 use Rattle.sheet.specs.Reading.{sheetIn}
 use Rattle.sheet.proofs.Limits.{lasting-range, warn-range}
-use Rattle.numbers.specs.declared.NumbersSheet.the-variants.{Sheet}
 use Rattle.numbers.specs.Numbers.{isFlag, arePart, areCap, lastingFrom, partFrom, capFrom, senderFrom, nameFrom}
 use Rattle.numbers.specs.Numbers.{areWarn, warnFrom, numbersSheet, statedOf, secondsOf, numbersOfNone, numbersOfPart, withParts, capNumbers, warnNumbers, numbersOf}
 use Rattle.numbers.proofs.Tests.{joined-at}
@@ -164,7 +164,7 @@ warn-not-cap : (w : WarnFacts) → areCap (warnNumbers w) ≡ false
 unfolding areCap warnNumbers
 warn-not-cap w = refl
 
-pub there-and-back : (t : List ℕ) (x : Found) → inRange (sheetIn t x) ≡ true → numbersSheet (numbersOf x) ≡ Sheet x
+pub there-and-back : (t : List ℕ) (x : Found) → inRange (sheetIn t x) ≡ true → numbersSheet (numbersOf x) ≡ gives x
 unfolding sheetIn inRange numbersSheet numbersOf
 there-and-back t (found.Cap f sender name) e =
     let back = cap-back f sender name (range-fits (f .parts) (and-left _ _ (and-left _ _ e))) in rw (back .0, back .1, back .2, back .3)

@@ -8,6 +8,7 @@ use mathlib.Core.List.{List, [], _∷_}
 use Prim.Native.Nat.{ℕ}
 use lib.Dec.{eqb, leb, ltb}
 use lib.ListN.{getD}
+use Rattle.text.specs.Answers.{Answer, gives, refuses}
 use Rattle.sheet.specs.declared.Lasting.{Lasting}
 use Rattle.sheet.specs.declared.Lasting.the-variants.{Unstated, Seconds}
 use Rattle.sheet.specs.declared.Part.{Part}
@@ -101,12 +102,17 @@ warnFrom n = record {
   response = at n 14;
 }
 
--- the sheet that numbers stand for
-unfoldable pub numbersSheet : List ℕ → NumbersSheet
+-- the sheet that numbers stand for; 23: "a sheet handed in has a fact out of range"
+unfoldable pub numbersSheet : List ℕ → Answer Found
 numbersSheet n =
-    cond (areCap n) (Sheet (found.Cap (capFrom n) (senderFrom n) (nameFrom n)))
-    (cond (areWarn n) (Sheet (found.Warn (warnFrom n)))
-    NotSheet)
+    cond (areCap n) (gives (found.Cap (capFrom n) (senderFrom n) (nameFrom n)))
+    (cond (areWarn n) (gives (found.Warn (warnFrom n)))
+    (refuses 23 0))
+
+-- document 01's answer for each case
+abbrev pub sheetAnswer : NumbersSheet → Answer Found
+sheetAnswer (Sheet x) = gives x
+sheetAnswer NotSheet = refuses 23 0
 
 -- ---- the numbers of a sheet that was found in a text
 

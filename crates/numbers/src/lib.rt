@@ -12,7 +12,7 @@ use crate::to_numbers::cap_numbers;
 use crate::to_numbers::warn_numbers;
 use sheet::Found;
 ghost use mathlib.Core.Path.{_≡_};
-ghost use Rattle.numbers.specs.Numbers.{numbersSheet, numbersOf};
+ghost use Rattle.numbers.specs.Numbers.{numbersSheet, sheetAnswer, numbersOf};
 
 // The sheet that numbers stand for, if they stand for one.
 pub enum NumbersSheet {
@@ -22,7 +22,7 @@ pub enum NumbersSheet {
 
 // The sheet that numbers stand for.
 pub fn numbers_sheet(n: &[u64; 15]) -> NumbersSheet
-    ensures { λ r. ⌜ r ≡ numbersSheet (now (n .entry)) ⌝ }
+    ensures { λ r. ⌜ sheetAnswer r ≡ numbersSheet (now (n .entry)) ⌝ }
 {
     if are_cap(n) {
         return NumbersSheet::Sheet(Found::Cap(cap_from(n), sender_from(n), name_from(n)));
