@@ -8,15 +8,16 @@ use lib.Dec.{leb}
 use lib.ListN.{length}
 use borrow.Author.Tests.{le-leb, lt-leb, leb-true, leb-false}
 use Rattle.text.specs.Logic.{by-test}
+use Rattle.text.specs.Answers.{refuses}
 use Rattle.sheet.specs.declared.CapFacts.{CapFacts}
 use Rattle.sheet.specs.declared.Span.{Span}
 use Rattle.sheet.specs.declared.Found.the-variants as found
 use Rattle.sheet.specs.Sheet.{cap}
 use Rattle.sheet.specs.Reading.{spanIn, sheetIn}
-use Rattle.sheet.specs.Answers.{writeSheet, after}
-use Rattle.warnbox.specs.declared.Answer.{Answer}
-use Rattle.warnbox.specs.Answers.{refused, writeAnswer}
-use Rattle.warnbox.specs.Sentences.{liesIn, foundSentence, foundAfter}
+use Rattle.sheet.specs.Answers.{writing, after}
+use Rattle.warnbox.specs.declared.Reply.{Reply}
+use Rattle.warnbox.specs.Replies.{reply}
+use Rattle.warnbox.specs.Sentences.{sentenceOf, afterSentence, liesIn, standing}
 
 -- ---- parts of a text
 
@@ -32,16 +33,15 @@ module _ (t : List ℕ) (s : Span) where
 
 -- ---- a sheet that is handed in with the text it is to stand in
 
-module _ (d : List ℕ) (start : ℕ) (t : List ℕ) (f : CapFacts) (s n : Span) (a : Answer) (e : List ℕ) where
+module _ (d : List ℕ) (start : ℕ) (t : List ℕ) (f : CapFacts) (s n : Span) (r : Reply) (e : List ℕ) where
   pub written-in :
       liesIn t s && liesIn t n ≡ true
-      → (a ≡ writeAnswer (writeSheet d start (cap f (spanIn t s) (spanIn t n)))) × (e ≡ after d start (cap f (spanIn t s) (spanIn t n)))
-      → (a ≡ foundSentence d start t (found.Cap f s n)) × (e ≡ foundAfter d start t (found.Cap f s n))
-  unfolding foundSentence foundAfter sheetIn
+      → (r ≡ reply (writing d start (cap f (spanIn t s) (spanIn t n)))) × (e ≡ after d start (cap f (spanIn t s) (spanIn t n)))
+      → (r ≡ reply (sentenceOf d start t (standing t (found.Cap f s n)))) × (e ≡ afterSentence d start t (standing t (found.Cap f s n)))
+  unfolding sheetIn
   written-in h w = rw h w
 
 pub not-there :
-    (d : List ℕ) (start : ℕ) (t : List ℕ) (f : CapFacts) (s n : Span) (a : Answer) → liesIn t s && liesIn t n ≡ false → a ≡ refused 23 0
-    → (a ≡ foundSentence d start t (found.Cap f s n)) × (d ≡ foundAfter d start t (found.Cap f s n))
-unfolding foundSentence foundAfter
-not-there d start t f s n a h m = rw h (m, refl)
+    (d : List ℕ) (start : ℕ) (t : List ℕ) (f : CapFacts) (s n : Span) (r : Reply) → liesIn t s && liesIn t n ≡ false → r ≡ reply (refuses 23 0)
+    → (r ≡ reply (sentenceOf d start t (standing t (found.Cap f s n)))) × (d ≡ afterSentence d start t (standing t (found.Cap f s n)))
+not-there d start t f s n r h m = rw h (m, refl)

@@ -1,55 +1,30 @@
 -- Sentences of parts, of packets and of sheets as numbers; and a text read back.
 use mathlib.Core.Bool.{Bool, true, cond, _&&_}
 use mathlib.Core.List.{List}
+use mathlib.Core.Option.{Option, none, some}
 use Prim.Native.Nat.{ℕ, _+_}
 use lib.Dec.{leb}
 use lib.ListN.{length}
+use Rattle.text.specs.Answers.{Answer, gives, refuses, andThen}
 use Rattle.sheet.specs.declared.Span.{Span}
 use Rattle.sheet.specs.declared.Found.{Found}
 use Rattle.sheet.specs.declared.Found.the-variants as found
-use Rattle.sheet.specs.declared.ReadBack.{ReadBack}
-use Rattle.sheet.specs.declared.ReadBack.the-variants as read
-use Rattle.sheet.specs.Sheet.{cap, warn}
-use Rattle.sheet.specs.Reading.{spanIn, sheetIn}
-use Rattle.sheet.specs.Answers.{writeSheet, after}
-use Rattle.numbers.specs.declared.NumbersSheet.{NumbersSheet}
-use Rattle.numbers.specs.declared.NumbersSheet.the-variants as given
-use Rattle.numbers.specs.Numbers.{numbersOf}
-use Rattle.packet.specs.declared.PacketSheet.{PacketSheet}
-use Rattle.packet.specs.declared.PacketSheet.the-variants as packet
-use Rattle.packet.specs.Packet.{faultNumber}
-use Rattle.parts.specs.declared.CapSheet.{CapSheet}
-use Rattle.parts.specs.declared.CapSheet.the-variants as drawn
-use Rattle.parts.specs.Sheets.{sheetNumber, sheetOffset}
-use Rattle.warnbox.specs.declared.Answer.{Answer}
-use Rattle.warnbox.specs.Answers.{refused, writeAnswer}
+use Rattle.sheet.specs.Reading.{sheetIn}
+use Rattle.sheet.specs.Answers.{writing, after}
+use Rattle.numbers.specs.Numbers.{numbersSheet, numbersOf}
 
--- ---- the sentence of a part of the document l, into the buffer d from an offset on; d is what it held before
+-- ---- the sentence of a sheet that is drawn or handed in, with the text t that holds its sender and name, into the buffer d from an offset on
 
-abbrev pub partSentence : List ℕ → ℕ → List ℕ → CapSheet → Answer
-partSentence d start l (drawn.Sheet f sender name) = writeAnswer (writeSheet d start (cap f (spanIn l sender) (spanIn l name)))
-partSentence d start l drawn.NotThere = refused (sheetNumber drawn.NotThere) (sheetOffset drawn.NotThere)
-partSentence d start l drawn.OutOfRange = refused (sheetNumber drawn.OutOfRange) (sheetOffset drawn.OutOfRange)
-partSentence d start l (drawn.Refused n p) = refused (sheetNumber (drawn.Refused n p)) (sheetOffset (drawn.Refused n p))
+-- where it ends
+abbrev pub sentenceOf : List ℕ → ℕ → List ℕ → Answer Found → Answer ℕ
+sentenceOf d start t a = andThen a (λ x. writing d start (sheetIn t x))
 
-abbrev pub partAfter : List ℕ → ℕ → List ℕ → CapSheet → List ℕ
-partAfter d start l (drawn.Sheet f sender name) = after d start (cap f (spanIn l sender) (spanIn l name))
-partAfter d start l drawn.NotThere = d
-partAfter d start l drawn.OutOfRange = d
-partAfter d start l (drawn.Refused n p) = d
+-- what the buffer then holds
+abbrev pub afterSentence : List ℕ → ℕ → List ℕ → Answer Found → List ℕ
+afterSentence d start t (gives x) = after d start (sheetIn t x)
+afterSentence d start t (refuses n p) = d
 
--- ---- the sentence of a packet
-
-abbrev pub packetSentence : List ℕ → ℕ → PacketSheet → Answer
-packetSentence d start (packet.Sheet w) = writeAnswer (writeSheet d start (warn w))
-packetSentence d start (packet.Refused fault) = refused (faultNumber fault) 0
-
-abbrev pub packetAfter : List ℕ → ℕ → PacketSheet → List ℕ
-packetAfter d start (packet.Sheet w) = after d start (warn w)
-packetAfter d start (packet.Refused fault) = d
-
--- ---- the sentence of a sheet that is handed in as numbers, with the text t that holds its sender and name. Numbers that stand for
--- no sheet are "a fact out of range", 23, as are a sender and a name that aren't there
+-- ---- a sheet that is handed in as numbers; 23: "a sheet handed in has a fact out of range", as a sender and a name have that aren't in the text
 
 -- a part of the text t
 abbrev pub liesIn : List ℕ → Span → Bool
@@ -60,24 +35,15 @@ abbrev pub standsIn : List ℕ → Found → Bool
 standsIn t (found.Cap f sender name) = liesIn t sender && liesIn t name
 standsIn t (found.Warn w) = true
 
-unfoldable pub foundSentence : List ℕ → ℕ → List ℕ → Found → Answer
-foundSentence d start t x = cond (standsIn t x) (writeAnswer (writeSheet d start (sheetIn t x))) (refused 23 0)
+abbrev pub standing : List ℕ → Found → Answer Found
+standing t x = cond (standsIn t x) (gives x) (refuses 23 0)
 
-unfoldable pub foundAfter : List ℕ → ℕ → List ℕ → Found → List ℕ
-foundAfter d start t x = cond (standsIn t x) (after d start (sheetIn t x)) d
+abbrev pub handedIn : (text numbers : List ℕ) → Answer Found
+handedIn t n = andThen (numbersSheet n) (standing t)
 
-abbrev pub numbersSentence : List ℕ → ℕ → List ℕ → NumbersSheet → Answer
-numbersSentence d start t (given.Sheet x) = foundSentence d start t x
-numbersSentence d start t given.NotSheet = refused 23 0
+-- ---- the numbers that reading back leaves: those of the sheet asked for, or the numbers n that were there
 
-abbrev pub numbersAfter : List ℕ → ℕ → List ℕ → NumbersSheet → List ℕ
-numbersAfter d start t (given.Sheet x) = foundAfter d start t x
-numbersAfter d start t given.NotSheet = d
-
--- ---- the numbers that reading back leaves: those of the sheet asked for, or what was there
-
-abbrev pub numbersRead : List ℕ → ReadBack → List ℕ
-numbersRead n (read.Count k) = n
-numbersRead n (read.Sheet k found) = numbersOf found
-numbersRead n (read.NotReadBack p) = n
-numbersRead n read.NotThere = n
+abbrev pub numbersRead : List ℕ → Answer (ℕ × Option Found) → List ℕ
+numbersRead n (gives (k, none)) = n
+numbersRead n (gives (k, some x)) = numbersOf x
+numbersRead n (refuses m p) = n

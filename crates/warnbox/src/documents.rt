@@ -1,31 +1,32 @@
 // CAP documents.
-use crate::Answer;
-use crate::answers::cap_place_answer;
-use crate::answers::check_answer;
-use crate::answers::refused;
+use crate::Reply;
+use crate::replies::cap_place_reply;
+use crate::replies::check_reply;
+use crate::replies::refused;
 use crate::writing::write_cap_sentence;
 use coordinates::Place;
 use parts::CapSheet;
 ghost use mathlib.Core.Path.{_≡_};
+ghost use Rattle.text.specs.Answers.{giving};
 ghost use Rattle.document.specs.Documents.{checkOf};
-ghost use Rattle.parts.specs.Sheets.{capSheet};
+ghost use Rattle.parts.specs.Sheets.{sheetAnswer, capSheet};
 ghost use Rattle.parts.specs.Places.{capPlace};
-ghost use Rattle.warnbox.specs.Answers.{checkAnswer, capPlaceAnswer};
-ghost use Rattle.warnbox.specs.Sentences.{partSentence, partAfter};
+ghost use Rattle.warnbox.specs.Replies.{reply, sideNumber};
+ghost use Rattle.warnbox.specs.Sentences.{sentenceOf, afterSentence};
 
 // Checks a document; the value is its number of parts.
 #[no_mangle]
 pub extern "C" fn warnbox_check_document(document: &[u8], value: &mut u64) -> u8
-    ensures { λ r. ⌜ (r ≡ checkAnswer (checkOf (now (document .entry))) .number) × (now (value .exit) ≡ checkAnswer (checkOf (now (document .entry))) .value) ⌝ }
+    ensures { λ r. ⌜ (r ≡ reply (checkOf (now (document .entry))) .number) × (now (value .exit) ≡ reply (checkOf (now (document .entry))) .value) ⌝ }
 {
-    let answer = check_answer(document::check_document(document));
-    *value = answer.value;
-    answer.number
+    let reply = check_reply(document::check_document(document));
+    *value = reply.value;
+    reply.number
 }
 
 // Writes the sentence of a sheet that was drawn from a document.
-fn write_drawn(buffer: &mut [u8], start: usize, document: &[u8], drawn: CapSheet) -> Answer
-    ensures { λ r. ⌜ (r ≡ partSentence (now (buffer .entry)) start (now (document .entry)) drawn) × (now (buffer .exit) ≡ partAfter (now (buffer .entry)) start (now (document .entry)) drawn) ⌝ }
+fn write_drawn(buffer: &mut [u8], start: usize, document: &[u8], drawn: CapSheet) -> Reply
+    ensures { λ r. ⌜ (r ≡ reply (sentenceOf (now (buffer .entry)) start (now (document .entry)) (sheetAnswer drawn))) × (now (buffer .exit) ≡ afterSentence (now (buffer .entry)) start (now (document .entry)) (sheetAnswer drawn)) ⌝ }
 {
     match drawn {
         CapSheet::Sheet(facts, sender, name) => {
@@ -46,14 +47,14 @@ pub extern "C" fn warnbox_document_sentence(
     part: usize,
     value: &mut u64,
 ) -> u8
-    ensures { λ r. ⌜ (r ≡ partSentence (now (buffer .entry)) start (now (document .entry)) (capSheet part (now (document .entry))) .number)
-        × (now (value .exit) ≡ partSentence (now (buffer .entry)) start (now (document .entry)) (capSheet part (now (document .entry))) .value)
-        × (now (buffer .exit) ≡ partAfter (now (buffer .entry)) start (now (document .entry)) (capSheet part (now (document .entry)))) ⌝ }
+    ensures { λ r. ⌜ (r ≡ reply (sentenceOf (now (buffer .entry)) start (now (document .entry)) (capSheet part (now (document .entry)))) .number)
+        × (now (value .exit) ≡ reply (sentenceOf (now (buffer .entry)) start (now (document .entry)) (capSheet part (now (document .entry)))) .value)
+        × (now (buffer .exit) ≡ afterSentence (now (buffer .entry)) start (now (document .entry)) (capSheet part (now (document .entry)))) ⌝ }
 {
     let drawn = parts::cap_sheet(document, part);
-    let answer = write_drawn(buffer, start, document, drawn);
-    *value = answer.value;
-    answer.number
+    let reply = write_drawn(buffer, start, document, drawn);
+    *value = reply.value;
+    reply.number
 }
 
 // Whether a place is inside a part of a document; the value is 0 for outside, 1 for inside, 2 for no shape.
@@ -65,10 +66,10 @@ pub extern "C" fn warnbox_document_place(
     lon: i32,
     value: &mut u64,
 ) -> u8
-    ensures { λ r. ⌜ (r ≡ capPlaceAnswer (capPlace part (record { lat = lat; lon = lon }) (now (document .entry))) .number)
-        × (now (value .exit) ≡ capPlaceAnswer (capPlace part (record { lat = lat; lon = lon }) (now (document .entry))) .value) ⌝ }
+    ensures { λ r. ⌜ (r ≡ reply (giving sideNumber (capPlace part (record { lat = lat; lon = lon }) (now (document .entry)))) .number)
+        × (now (value .exit) ≡ reply (giving sideNumber (capPlace part (record { lat = lat; lon = lon }) (now (document .entry)))) .value) ⌝ }
 {
-    let answer = cap_place_answer(parts::cap_place(document, part, Place { lat, lon }));
-    *value = answer.value;
-    answer.number
+    let reply = cap_place_reply(parts::cap_place(document, part, Place { lat, lon }));
+    *value = reply.value;
+    reply.number
 }

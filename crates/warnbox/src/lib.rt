@@ -1,6 +1,6 @@
 // The warning box for C: include/warnbox.h documents each function for its callers.
 // Every function gives the number of a refusal, 0 for none, and writes a value: a refusal's offset, or else what the function tells.
-mod answers; // answers.rt: answers as numbers
+mod replies; // replies.rt: answers as numbers
 mod documents; // documents.rt: CAP documents
 mod packets; // packets.rt: WARN packets
 mod sentences; // sentences.rt: writing a sheet, and reading a text back
@@ -8,7 +8,7 @@ pub mod tables; // tables.rt: the event table as the caller lends it
 mod writing; // writing.rt: the sentence of a sheet, the answer as numbers
 
 // What a function gives back: the number of a refusal, 0 for none, and the value.
-pub struct Answer {
+pub struct Reply {
     pub number: u8,
     pub value: u64,
 }

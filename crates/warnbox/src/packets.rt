@@ -1,18 +1,22 @@
 // WARN packets.
-use crate::Answer;
-use crate::answers::packet_place_answer;
-use crate::answers::refused;
+use crate::Reply;
+use crate::replies::packet_place_reply;
+use crate::replies::refused;
 use crate::writing::write_warn_sentence;
 use coordinates::Place;
 use packet::PacketSheet;
 ghost use mathlib.Core.Path.{_≡_};
-ghost use Rattle.packet.specs.Packet.{packetSheet, packetPlace};
-ghost use Rattle.warnbox.specs.Answers.{packetPlaceAnswer};
-ghost use Rattle.warnbox.specs.Sentences.{packetSentence, packetAfter};
+ghost use mathlib.Core.List.{[]};
+ghost use mir.Val.{boolByte};
+ghost use Rattle.text.specs.Answers.{giving};
+ghost use Rattle.sheet.specs.declared.Found.the-variants.{Warn};
+ghost use Rattle.packet.specs.Packet.{sheetAnswer, packetSheet, packetPlace};
+ghost use Rattle.warnbox.specs.Replies.{reply};
+ghost use Rattle.warnbox.specs.Sentences.{sentenceOf, afterSentence};
 
 // Writes the sentence of a sheet that was drawn from a packet.
-fn write_drawn(buffer: &mut [u8], start: usize, drawn: PacketSheet) -> Answer
-    ensures { λ r. ⌜ (r ≡ packetSentence (now (buffer .entry)) start drawn) × (now (buffer .exit) ≡ packetAfter (now (buffer .entry)) start drawn) ⌝ }
+fn write_drawn(buffer: &mut [u8], start: usize, drawn: PacketSheet) -> Reply
+    ensures { λ r. ⌜ (r ≡ reply (sentenceOf (now (buffer .entry)) start [] (giving Warn (sheetAnswer drawn)))) × (now (buffer .exit) ≡ afterSentence (now (buffer .entry)) start [] (giving Warn (sheetAnswer drawn))) ⌝ }
 {
     match drawn {
         PacketSheet::Sheet(facts) => write_warn_sentence(buffer, start, facts),
@@ -28,23 +32,23 @@ pub extern "C" fn warnbox_packet_sentence(
     packet: &[u8],
     value: &mut u64,
 ) -> u8
-    ensures { λ r. ⌜ (r ≡ packetSentence (now (buffer .entry)) start (packetSheet (now (packet .entry))) .number)
-        × (now (value .exit) ≡ packetSentence (now (buffer .entry)) start (packetSheet (now (packet .entry))) .value)
-        × (now (buffer .exit) ≡ packetAfter (now (buffer .entry)) start (packetSheet (now (packet .entry)))) ⌝ }
+    ensures { λ r. ⌜ (r ≡ reply (sentenceOf (now (buffer .entry)) start [] (giving Warn (packetSheet (now (packet .entry))))) .number)
+        × (now (value .exit) ≡ reply (sentenceOf (now (buffer .entry)) start [] (giving Warn (packetSheet (now (packet .entry))))) .value)
+        × (now (buffer .exit) ≡ afterSentence (now (buffer .entry)) start [] (giving Warn (packetSheet (now (packet .entry))))) ⌝ }
 {
     let drawn = packet::packet_sheet(packet);
-    let answer = write_drawn(buffer, start, drawn);
-    *value = answer.value;
-    answer.number
+    let reply = write_drawn(buffer, start, drawn);
+    *value = reply.value;
+    reply.number
 }
 
 // Whether a place is inside a packet's circle; the value is 0 for outside, 1 for inside.
 #[no_mangle]
 pub extern "C" fn warnbox_packet_place(packet: &[u8], lat: i32, lon: i32, value: &mut u64) -> u8
-    ensures { λ r. ⌜ (r ≡ packetPlaceAnswer (packetPlace (now (packet .entry)) (record { lat = lat; lon = lon })) .number)
-        × (now (value .exit) ≡ packetPlaceAnswer (packetPlace (now (packet .entry)) (record { lat = lat; lon = lon })) .value) ⌝ }
+    ensures { λ r. ⌜ (r ≡ reply (giving boolByte (packetPlace (now (packet .entry)) (record { lat = lat; lon = lon }))) .number)
+        × (now (value .exit) ≡ reply (giving boolByte (packetPlace (now (packet .entry)) (record { lat = lat; lon = lon }))) .value) ⌝ }
 {
-    let answer = packet_place_answer(packet::packet_place(packet, Place { lat, lon }));
-    *value = answer.value;
-    answer.number
+    let reply = packet_place_reply(packet::packet_place(packet, Place { lat, lon }));
+    *value = reply.value;
+    reply.number
 }

@@ -1,7 +1,7 @@
 // Writing a sheet that is handed in as numbers, and reading a text back.
-use crate::Answer;
-use crate::answers::read_answer;
-use crate::answers::refused;
+use crate::Reply;
+use crate::replies::read_reply;
+use crate::replies::refused;
 use crate::writing::write_cap_sentence;
 use crate::writing::write_warn_sentence;
 use numbers::NumbersSheet;
@@ -11,10 +11,10 @@ use sheet::ReadBack;
 use sheet::Span;
 ghost use mathlib.Core.Path.{_≡_};
 ghost use Rattle.sheet.specs.declared.Found.the-variants.{Cap};
-ghost use Rattle.sheet.specs.Answers.{readBack};
-ghost use Rattle.numbers.specs.Numbers.{numbersSheet};
-ghost use Rattle.warnbox.specs.Answers.{readAnswer};
-ghost use Rattle.warnbox.specs.Sentences.{liesIn, foundSentence, foundAfter, numbersSentence, numbersAfter, numbersRead};
+ghost use Rattle.text.specs.Answers.{giving};
+ghost use Rattle.sheet.specs.Answers.{readBack, readAnswer};
+ghost use Rattle.warnbox.specs.Replies.{reply, countOf};
+ghost use Rattle.warnbox.specs.Sentences.{sentenceOf, afterSentence, liesIn, standing, handedIn, numbersRead};
 
 // Whether a part lies in a text.
 fn lies_in(text: &[u8], span: Span) -> bool
@@ -34,8 +34,8 @@ fn write_cap_in(
     facts: CapFacts,
     sender: Span,
     name: Span,
-) -> Answer
-    ensures { λ r. ⌜ (r ≡ foundSentence (now (buffer .entry)) start (now (text .entry)) (Cap facts sender name)) × (now (buffer .exit) ≡ foundAfter (now (buffer .entry)) start (now (text .entry)) (Cap facts sender name)) ⌝ }
+) -> Reply
+    ensures { λ r. ⌜ (r ≡ reply (sentenceOf (now (buffer .entry)) start (now (text .entry)) (standing (now (text .entry)) (Cap facts sender name)))) × (now (buffer .exit) ≡ afterSentence (now (buffer .entry)) start (now (text .entry)) (standing (now (text .entry)) (Cap facts sender name))) ⌝ }
 {
     if !(lies_in(text, sender) & lies_in(text, name)) {
         return refused(23, 0);
@@ -44,8 +44,8 @@ fn write_cap_in(
 }
 
 // Writes the sentence of a sheet that is handed in with the text it is to stand in.
-fn write_found(buffer: &mut [u8], start: usize, text: &[u8], found: Found) -> Answer
-    ensures { λ r. ⌜ (r ≡ foundSentence (now (buffer .entry)) start (now (text .entry)) found) × (now (buffer .exit) ≡ foundAfter (now (buffer .entry)) start (now (text .entry)) found) ⌝ }
+fn write_found(buffer: &mut [u8], start: usize, text: &[u8], found: Found) -> Reply
+    ensures { λ r. ⌜ (r ≡ reply (sentenceOf (now (buffer .entry)) start (now (text .entry)) (standing (now (text .entry)) found))) × (now (buffer .exit) ≡ afterSentence (now (buffer .entry)) start (now (text .entry)) (standing (now (text .entry)) found)) ⌝ }
 {
     match found {
         Found::Cap(facts, sender, name) => write_cap_in(buffer, start, text, facts, sender, name),
@@ -54,8 +54,8 @@ fn write_found(buffer: &mut [u8], start: usize, text: &[u8], found: Found) -> An
 }
 
 // Writes the sentence of a sheet that is handed in as numbers.
-fn write_numbers(buffer: &mut [u8], start: usize, text: &[u8], sheet: &[u64; 15]) -> Answer
-    ensures { λ r. ⌜ (r ≡ numbersSentence (now (buffer .entry)) start (now (text .entry)) (numbersSheet (now (sheet .entry)))) × (now (buffer .exit) ≡ numbersAfter (now (buffer .entry)) start (now (text .entry)) (numbersSheet (now (sheet .entry)))) ⌝ }
+fn write_numbers(buffer: &mut [u8], start: usize, text: &[u8], sheet: &[u64; 15]) -> Reply
+    ensures { λ r. ⌜ (r ≡ reply (sentenceOf (now (buffer .entry)) start (now (text .entry)) (handedIn (now (text .entry)) (now (sheet .entry))))) × (now (buffer .exit) ≡ afterSentence (now (buffer .entry)) start (now (text .entry)) (handedIn (now (text .entry)) (now (sheet .entry)))) ⌝ }
 {
     match numbers::numbers_sheet(sheet) {
         NumbersSheet::Sheet(found) => write_found(buffer, start, text, found),
@@ -72,28 +72,28 @@ pub extern "C" fn warnbox_write(
     sheet: &[u64; 15],
     value: &mut u64,
 ) -> u8
-    ensures { λ r. ⌜ (r ≡ numbersSentence (now (buffer .entry)) start (now (text .entry)) (numbersSheet (now (sheet .entry))) .number)
-        × (now (value .exit) ≡ numbersSentence (now (buffer .entry)) start (now (text .entry)) (numbersSheet (now (sheet .entry))) .value)
-        × (now (buffer .exit) ≡ numbersAfter (now (buffer .entry)) start (now (text .entry)) (numbersSheet (now (sheet .entry)))) ⌝ }
+    ensures { λ r. ⌜ (r ≡ reply (sentenceOf (now (buffer .entry)) start (now (text .entry)) (handedIn (now (text .entry)) (now (sheet .entry)))) .number)
+        × (now (value .exit) ≡ reply (sentenceOf (now (buffer .entry)) start (now (text .entry)) (handedIn (now (text .entry)) (now (sheet .entry)))) .value)
+        × (now (buffer .exit) ≡ afterSentence (now (buffer .entry)) start (now (text .entry)) (handedIn (now (text .entry)) (now (sheet .entry)))) ⌝ }
 {
-    let answer = write_numbers(buffer, start, text, sheet);
-    *value = answer.value;
-    answer.number
+    let reply = write_numbers(buffer, start, text, sheet);
+    *value = reply.value;
+    reply.number
 }
 
 // Counts the read-backs of a text; the value is their number.
 #[no_mangle]
 pub extern "C" fn warnbox_count(text: &[u8], value: &mut u64) -> u8
-    ensures { λ r. ⌜ (r ≡ readAnswer (readBack (now (text .entry)) 0) .number) × (now (value .exit) ≡ readAnswer (readBack (now (text .entry)) 0) .value) ⌝ }
+    ensures { λ r. ⌜ (r ≡ reply (giving countOf (readBack (now (text .entry)) 0)) .number) × (now (value .exit) ≡ reply (giving countOf (readBack (now (text .entry)) 0)) .value) ⌝ }
 {
-    let answer = read_answer(reader::read_back(text, 0));
-    *value = answer.value;
-    answer.number
+    let reply = read_reply(reader::read_back(text, 0));
+    *value = reply.value;
+    reply.number
 }
 
 // The numbers that reading back leaves: those of the sheet that was found, or what was there.
 fn numbers_left(read: ReadBack, before: [u64; 15]) -> [u64; 15]
-    ensures { λ r. ⌜ r ≡ numbersRead before read ⌝ }
+    ensures { λ r. ⌜ r ≡ numbersRead before (readAnswer read) ⌝ }
 {
     match read {
         ReadBack::Count(n) => before,
@@ -111,13 +111,13 @@ pub extern "C" fn warnbox_read_back(
     sheet: &mut [u64; 15],
     value: &mut u64,
 ) -> u8
-    ensures { λ r. ⌜ (r ≡ readAnswer (readBack (now (text .entry)) k) .number)
-        × (now (value .exit) ≡ readAnswer (readBack (now (text .entry)) k) .value)
+    ensures { λ r. ⌜ (r ≡ reply (giving countOf (readBack (now (text .entry)) k)) .number)
+        × (now (value .exit) ≡ reply (giving countOf (readBack (now (text .entry)) k)) .value)
         × (now (sheet .exit) ≡ numbersRead (now (sheet .entry)) (readBack (now (text .entry)) k)) ⌝ }
 {
     let read = reader::read_back(text, k);
-    let answer = read_answer(read);
-    *value = answer.value;
+    let reply = read_reply(read);
+    *value = reply.value;
     *sheet = numbers_left(read, *sheet);
-    answer.number
+    reply.number
 }

@@ -1,6 +1,6 @@
 // Writing the sentence of a sheet, with the answer as numbers.
-use crate::Answer;
-use crate::answers::write_answer;
+use crate::Reply;
+use crate::replies::write_reply;
 use sheet::CapFacts;
 use sheet::Span;
 use sheet::WarnFacts;
@@ -8,8 +8,8 @@ use sheet::span_in;
 ghost use mathlib.Core.Path.{_≡_};
 ghost use Rattle.sheet.specs.Sheet.{cap, warn};
 ghost use Rattle.sheet.specs.Reading.{spanIn};
-ghost use Rattle.sheet.specs.Answers.{writeSheet, after};
-ghost use Rattle.warnbox.specs.Answers.{writeAnswer};
+ghost use Rattle.sheet.specs.Answers.{writing, after};
+ghost use Rattle.warnbox.specs.Replies.{reply};
 
 // Writes the sentence of a CAP sheet, whose sender and name are parts of a text.
 pub fn write_cap_sentence(
@@ -19,10 +19,10 @@ pub fn write_cap_sentence(
     facts: CapFacts,
     sender: Span,
     name: Span,
-) -> Answer
-    ensures { λ r. ⌜ (r ≡ writeAnswer (writeSheet (now (buffer .entry)) start (cap facts (spanIn (now (text .entry)) sender) (spanIn (now (text .entry)) name)))) × (now (buffer .exit) ≡ after (now (buffer .entry)) start (cap facts (spanIn (now (text .entry)) sender) (spanIn (now (text .entry)) name))) ⌝ }
+) -> Reply
+    ensures { λ r. ⌜ (r ≡ reply (writing (now (buffer .entry)) start (cap facts (spanIn (now (text .entry)) sender) (spanIn (now (text .entry)) name)))) × (now (buffer .exit) ≡ after (now (buffer .entry)) start (cap facts (spanIn (now (text .entry)) sender) (spanIn (now (text .entry)) name))) ⌝ }
 {
-    write_answer(readback::write_cap(
+    write_reply(readback::write_cap(
         buffer,
         start,
         facts,
@@ -32,8 +32,8 @@ pub fn write_cap_sentence(
 }
 
 // Writes the sentence of a WARN sheet.
-pub fn write_warn_sentence(buffer: &mut [u8], start: usize, facts: WarnFacts) -> Answer
-    ensures { λ r. ⌜ (r ≡ writeAnswer (writeSheet (now (buffer .entry)) start (warn facts))) × (now (buffer .exit) ≡ after (now (buffer .entry)) start (warn facts)) ⌝ }
+pub fn write_warn_sentence(buffer: &mut [u8], start: usize, facts: WarnFacts) -> Reply
+    ensures { λ r. ⌜ (r ≡ reply (writing (now (buffer .entry)) start (warn facts))) × (now (buffer .exit) ≡ after (now (buffer .entry)) start (warn facts)) ⌝ }
 {
-    write_answer(readback::write_warn(buffer, start, facts))
+    write_reply(readback::write_warn(buffer, start, facts))
 }

@@ -1,9 +1,10 @@
 -- The answer about the place, as number and value.
 use borrow.Author.Needs.{needs}
 use mathlib.Core.Path.{ap, _∙_}
+use Rattle.text.specs.Answers.{Answer, giving}
 use Rattle.coordinates.specs.declared.Place.{Place}
-use Rattle.parts.specs.Places.{capPlace}
-use Rattle.warnbox.specs.Answers.{capPlaceAnswer}
+use Rattle.parts.specs.Places.{Side, capPlace}
+use Rattle.warnbox.specs.Replies.{reply, sideNumber}
 use Rattle.warnbox.proofs.Pairs.{number-and-value}
 use Rattle.warnbox.proofs.Places.{place-read}
 use Rattle.warnbox.proofs.documents.warnbox_document_place.Statement.{statement}
@@ -12,7 +13,7 @@ use Rattle.warnbox.proofs.documents.warnbox_document_place.Tie as tie
 returns : tie.Need-returns
 returns c =
     let k = c .before .before .before in
-    number-and-value (c .cap-place-answer .ensures ∙ ap capPlaceAnswer
+    number-and-value (c .cap-place-reply .ensures ∙ ap (λ (a : Answer Side). reply (giving sideNumber a))
     (c .before .cap-place .ensures ∙ ap (λ (p : Place). capPlace (k .args .part) p (k .args .document .now))
     (place-read _ _ (k .fits .lat) (k .fits .lon))))
 

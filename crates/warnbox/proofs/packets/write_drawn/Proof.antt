@@ -2,19 +2,26 @@
 use borrow.Author.Needs.{needs}
 use mathlib.Core.Path.{sym, ap, _∙_}
 use Prim.Native.Nat.{ℕ}
-use Rattle.warnbox.specs.Answers.{refused}
-use Rattle.warnbox.specs.Sentences.{packetSentence, packetAfter}
+use mathlib.Core.List.{[]}
+use Rattle.text.specs.Answers.{refuses, giving}
+use Rattle.sheet.specs.declared.Found.the-variants.{Warn}
+use Rattle.sheet.specs.Reading.{sheetIn}
+use Rattle.packet.specs.declared.PacketSheet.{PacketSheet}
+use Rattle.packet.specs.Packet.{sheetAnswer}
+use Rattle.warnbox.specs.Replies.{reply}
+use Rattle.warnbox.specs.Sentences.{sentenceOf, afterSentence}
 use Rattle.warnbox.proofs.packets.write_drawn.Statement.{statement}
 use Rattle.warnbox.proofs.packets.write_drawn.Tie as tie
 
 returns : tie.Need-returns
+unfolding sheetIn
 returns c = rw (c .before .before .before .before .before .drawn .given .1) (c .before .before .write-warn-sentence .ensures)
 
 returns-2 : tie.Need-returns-2
 returns-2 c = (
-  c .refused .ensures ∙ ap (λ (n : ℕ). refused n 0) (c .before .fault-number .ensures) ∙ ap (packetSentence _ _)
+  c .refused .ensures ∙ ap (λ (n : ℕ). reply (refuses n 0)) (c .before .fault-number .ensures) ∙ ap (λ (x : PacketSheet). reply (sentenceOf _ _ [] (giving Warn (sheetAnswer x))))
       (sym (c .before .before .before .drawn2 .given .1)),
-  ap (packetAfter _ _) (sym (c .before .before .before .drawn2 .given .1)),
+  ap (λ (x : PacketSheet). afterSentence _ _ [] (giving Warn (sheetAnswer x))) (sym (c .before .before .before .drawn2 .given .1)),
 )
 
 pub write-drawn-spec : {M : Type 1} → statement M

@@ -13,7 +13,7 @@ returns c =
       ← w .0,
       ← w .1,
     )
-    (c .write-answer .ensures, refl)
+    (c .write-reply .ensures, refl)
 
 pub write-cap-sentence-spec : {M : Type 1} → statement M
 write-cap-sentence-spec =

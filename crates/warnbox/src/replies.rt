@@ -1,0 +1,132 @@
+// Answers as numbers: what the functions for C give back.
+use crate::Reply;
+use document::Check;
+use packet::PacketPlace;
+use parts::CapPlace;
+use sheet::ReadBack;
+use sheet::WriteSheet;
+ghost use mathlib.Core.Path.{_≡_};
+ghost use mir.Val.{boolByte};
+ghost use Rattle.text.specs.Answers.{refuses, giving};
+ghost use Rattle.sheet.specs.Answers.{writeAnswer, readAnswer};
+ghost use Rattle.packet.specs.Packet as packet;
+ghost use Rattle.document.specs.Documents.{checkAnswer};
+ghost use Rattle.parts.specs.Places as parts;
+ghost use Rattle.warnbox.specs.Replies.{reply, sideNumber, countOf};
+
+pub fn refused(number: u8, offset: usize) -> Reply
+    ensures { λ r. ⌜ r ≡ reply (refuses number offset) ⌝ }
+{
+    Reply {
+        number: number,
+        value: offset as u64,
+    }
+}
+
+pub fn check_reply(check: Check) -> Reply
+    ensures { λ r. ⌜ r ≡ reply (checkAnswer check) ⌝ }
+{
+    match check {
+        Check::Accepted(parts) => Reply {
+            number: 0,
+            value: parts as u64,
+        },
+        Check::Refused(number, offset) => Reply {
+            number: number,
+            value: offset as u64,
+        },
+    }
+}
+
+pub fn write_reply(answer: WriteSheet) -> Reply
+    ensures { λ r. ⌜ r ≡ reply (writeAnswer answer) ⌝ }
+{
+    match answer {
+        WriteSheet::End(end) => Reply {
+            number: 0,
+            value: end as u64,
+        },
+        WriteSheet::OutOfRange => Reply {
+            number: 23,
+            value: 0,
+        },
+        WriteSheet::NoRoom => Reply {
+            number: 13,
+            value: 0,
+        },
+    }
+}
+
+pub fn cap_place_reply(answer: CapPlace) -> Reply
+    ensures { λ r. ⌜ r ≡ reply (giving sideNumber (parts.placeAnswer answer)) ⌝ }
+{
+    match answer {
+        CapPlace::Inside => Reply {
+            number: 0,
+            value: 1,
+        },
+        CapPlace::Outside => Reply {
+            number: 0,
+            value: 0,
+        },
+        CapPlace::NoShape => Reply {
+            number: 0,
+            value: 2,
+        },
+        CapPlace::NotThere => Reply {
+            number: 21,
+            value: 0,
+        },
+        CapPlace::OutOfRange => Reply {
+            number: 6,
+            value: 0,
+        },
+        CapPlace::Refused(number, offset) => Reply {
+            number: number,
+            value: offset as u64,
+        },
+    }
+}
+
+pub fn packet_place_reply(answer: PacketPlace) -> Reply
+    ensures { λ r. ⌜ r ≡ reply (giving boolByte (packet.placeAnswer answer)) ⌝ }
+{
+    match answer {
+        PacketPlace::Inside => Reply {
+            number: 0,
+            value: 1,
+        },
+        PacketPlace::Outside => Reply {
+            number: 0,
+            value: 0,
+        },
+        PacketPlace::OutOfRange => Reply {
+            number: 6,
+            value: 0,
+        },
+        PacketPlace::Refused(fault) => refused(packet::fault_number(fault), 0),
+    }
+}
+
+pub fn read_reply(answer: ReadBack) -> Reply
+    ensures { λ r. ⌜ r ≡ reply (giving countOf (readAnswer answer)) ⌝ }
+{
+    match answer {
+        ReadBack::Count(n) => Reply {
+            number: 0,
+            value: n as u64,
+        },
+        ReadBack::Sheet(n, found) => Reply {
+            number: 0,
+            value: n as u64,
+        },
+        ReadBack::NotReadBack(offset) => Reply {
+            number: 23,
+            value: offset as u64,
+        },
+        ReadBack::NotThere => Reply {
+            number: 21,
+            value: 0,
+        },
+    }
+}
