@@ -11,7 +11,7 @@ use sheet::span_in;
 ghost use mathlib.Core.Path.{_≡_};
 ghost use lib.ListN.{drop};
 ghost use Rattle.sheet.specs.Reading.{foundAt, sheetIn, lineAt};
-ghost use Rattle.sheet.specs.Answers.{writeSheet, after};
+ghost use Rattle.sheet.specs.Answers.{writing, writeAnswer, after};
 
 // Room for any sentence.
 const SENTENCE_ROOM: usize = 1024;
@@ -29,7 +29,7 @@ pub fn found_at(t: &[u8], at: usize) -> Found
 
 // Writes the sentence of a sheet that was found in a text over the front of a buffer.
 fn write_found(buffer: &mut [u8], t: &[u8], found: Found) -> WriteSheet
-    ensures { λ r. ⌜ (r ≡ writeSheet (now (buffer .entry)) 0 (sheetIn (now (t .entry)) found)) × (now (buffer .exit) ≡ after (now (buffer .entry)) 0 (sheetIn (now (t .entry)) found)) ⌝ }
+    ensures { λ r. ⌜ (writeAnswer r ≡ writing (now (buffer .entry)) 0 (sheetIn (now (t .entry)) found)) × (now (buffer .exit) ≡ after (now (buffer .entry)) 0 (sheetIn (now (t .entry)) found)) ⌝ }
 {
     match found {
         Found::Cap(facts, sender, name) => {
