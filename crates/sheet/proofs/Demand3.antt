@@ -5,13 +5,13 @@ use Prim.Native.Nat.{ℕ}
 use Rattle.text.specs.Answers.{Answer}
 use Rattle.text.specs.Parts.{part}
 use Rattle.sheet.specs.Sheet.{Sheet}
-use Rattle.sheet.specs.Demand.{Run, notRefused, Demand3}
+use Rattle.sheet.specs.Demand.{Call, Run, notRefused, Demand3}
 use Rattle.sheet.proofs.WriteAll.{runs, writes}
 use Rattle.sheet.proofs.ReadAll.{reads, sentences-injective, exact, never}
 
 same-sheets :
     {xs ys : List Sheet} {rs qs : List (Answer ℕ)} {d c e f : List ℕ} {at start end last : ℕ}
-    → Run xs rs d at e end → Run ys qs c start f last → part e at end ≡ part f start last → notRefused xs rs ≡ notRefused ys qs
+    → Run Call xs rs d at e end → Run Call ys qs c start f last → part e at end ≡ part f start last → notRefused xs rs ≡ notRefused ys qs
 same-sheets {xs} {ys} {rs} {qs} v w q =
     let a = writes v in
     let b = writes w in

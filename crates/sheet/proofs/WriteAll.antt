@@ -1,7 +1,7 @@
 -- A run of calls writes the sentences of the sheets that are not refused, one after the other, and nothing else.
 use mathlib.Core.Path.{_≡_, refl, sym, ap, _∙_}
 use mathlib.Core.Bool.{true}
-use mathlib.Core.List.{List, [], _∷_}
+use mathlib.Core.List.{List, [], _∷_, map}
 use Prim.Native.Nat.{ℕ, _+_, _-_, _≤_, _<_}
 use native.Mathlib.Omega.{arith}
 use lib.Dec.{leb}
@@ -18,12 +18,19 @@ use Rattle.sheet.proofs.WriteOne.{length-written, written-nil, written-
 
 -- ---- there is a run
 
-pub runs : (xs : List Sheet) (d : List ℕ) (at : ℕ) → (rs : List (Answer ℕ)) × ((e : List ℕ) × ((end : ℕ) × Run xs rs d at e end))
+pub runs : (xs : List Sheet) (d : List ℕ) (at : ℕ) → (rs : List (Answer ℕ)) × ((e : List ℕ) × ((end : ℕ) × Run Call xs rs d at e end))
 runs [] d at = ([], (d, (at, no-call)))
 runs (x ∷ xs) d at =
     let r = writing d at x in
     let w = runs xs (after d at x) (nextStart at r) in
     (r ∷ w .0, (w .1 .0, (w .1 .1 .0, one-call (record { answer = refl; buffer = refl }) (w .1 .1 .1))))
+
+-- calls whose contract is the writer's for some sheet are calls of the writer
+module _ {X : Type 0} {One : X → List ℕ → ℕ → Answer ℕ → List ℕ → Type 0} (f : X → Sheet)
+    (call : (x : X) (d : List ℕ) (at : ℕ) (r : Answer ℕ) (e : List ℕ) → One x d at r e → Call (f x) d at r e) where
+  pub lifted : {xs : List X} {rs : List (Answer ℕ)} {d e : List ℕ} {at end : ℕ} → Run One xs rs d at e end → Run Call (map f xs) rs d at e end
+  lifted no-call = no-call
+  lifted (one-call {x} {r = r} {d = d} {m = m} {at = at} c w) = one-call (call x d at r m c) (lifted w)
 
 -- ---- one call more
 
@@ -57,7 +64,7 @@ module _ (x : Sheet) (xs : List Sheet) (d : List ℕ) (at : ℕ) (m e : List ℕ
 
 -- ---- all calls
 
-writing-all : {xs : List Sheet} {rs : List (Answer ℕ)} {d e : List ℕ} {at end : ℕ} → Run xs rs d at e end → Writing (notRefused xs rs) d at e end
+writing-all : {xs : List Sheet} {rs : List (Answer ℕ)} {d e : List ℕ} {at end : ℕ} → Run Call xs rs d at e end → Writing (notRefused xs rs) d at e end
 unfolding notRefused sentences allInRange
 writing-all (no-call {d} {at}) =
     record { buffer = sym (written-nil d at); place = omega arith; fits = λ h. h; past = λ h. refl; sound = refl }
@@ -90,5 +97,5 @@ module _ (xs : List Sheet) (d : List ℕ) (at : ℕ) where
         sound = w .sound;
       }
 
-pub writes : {xs : List Sheet} {rs : List (Answer ℕ)} {d e : List ℕ} {at end : ℕ} → Run xs rs d at e end → Writes (notRefused xs rs) d at e end
+pub writes : {xs : List Sheet} {rs : List (Answer ℕ)} {d e : List ℕ} {at end : ℕ} → Run Call xs rs d at e end → Writes (notRefused xs rs) d at e end
 writes {xs} {rs} {d} {e} {at} {end} w = whole (notRefused xs rs) d at (writing-all w)

@@ -28,13 +28,13 @@ abbrev pub nextStart : ℕ → Answer ℕ → ℕ
 nextStart at (gives end) = end
 nextStart at (refuses n p) = at
 
--- the calls for a list of sheets and their answers, from the buffer d and the start at to the buffer e and the end of the last sentence;
--- "each write gets it as the last one left it"
-pub data Run : List Sheet → List (Answer ℕ) → List ℕ → ℕ → List ℕ → ℕ → Type 0 where
-  no-call : {d : List ℕ} {at : ℕ} → Run [] [] d at d at
+-- calls of a writer one behind the other, each as its contract `One` says: for a list of what it writes, with their answers, from the buffer d and the
+-- start at to the buffer e and the end of the last sentence; "each write gets it as the last one left it"
+pub data Run {X : Type 0} (One : X → List ℕ → ℕ → Answer ℕ → List ℕ → Type 0) : List X → List (Answer ℕ) → List ℕ → ℕ → List ℕ → ℕ → Type 0 where
+  no-call : {d : List ℕ} {at : ℕ} → Run One [] [] d at d at
   one-call :
-      {x : Sheet} {xs : List Sheet} {r : Answer ℕ} {rs : List (Answer ℕ)} {d m e : List ℕ} {at end : ℕ}
-      → Call x d at r m → Run xs rs m (nextStart at r) e end → Run (x ∷ xs) (r ∷ rs) d at e end
+      {x : X} {xs : List X} {r : Answer ℕ} {rs : List (Answer ℕ)} {d m e : List ℕ} {at end : ℕ}
+      → One x d at r m → Run One xs rs m (nextStart at r) e end → Run One (x ∷ xs) (r ∷ rs) d at e end
 
 -- the sheets whose answers are no refusals, in their order
 unfoldable pub notRefused : List Sheet → List (Answer ℕ) → List Sheet
@@ -89,15 +89,15 @@ IsReadBacks t = (xs : List Sheet) × ((allInRange xs ≡ true) × (t ≡ sentenc
 
 pub record Demand3 : Type 0 where
   -- every list of sheets can be written, from any start into any buffer
-  pub runs : (xs : List Sheet) (d : List ℕ) (at : ℕ) → (rs : List (Answer ℕ)) × ((e : List ℕ) × ((end : ℕ) × Run xs rs d at e end))
+  pub runs : (xs : List Sheet) (d : List ℕ) (at : ℕ) → (rs : List (Answer ℕ)) × ((e : List ℕ) × ((end : ℕ) × Run Call xs rs d at e end))
   -- and every such run writes the sheets that are not refused
   pub writes :
       {xs : List Sheet} {rs : List (Answer ℕ)} {d e : List ℕ} {at end : ℕ}
-      → Run xs rs d at e end → Writes (notRefused xs rs) d at e end
+      → Run Call xs rs d at e end → Writes (notRefused xs rs) d at e end
   -- any two with equal texts wrote the same sheets
   pub same :
       {xs ys : List Sheet} {rs qs : List (Answer ℕ)} {d c e f : List ℕ} {at start end last : ℕ}
-      → Run xs rs d at e end → Run ys qs c start f last → part e at end ≡ part f start last → notRefused xs rs ≡ notRefused ys qs
+      → Run Call xs rs d at e end → Run Call ys qs c start f last → part e at end ≡ part f start last → notRefused xs rs ≡ notRefused ys qs
   -- the reader, on texts of whole read-backs
   pub reads : (xs : List Sheet) → allInRange xs ≡ true → Reads xs
   -- and on any bytes: whole read-backs, or refused, and never both
