@@ -2,3 +2,4 @@ pub mod Pairs
 pub mod Places
 pub mod InText
 mod TableTypes
+pub mod Demand3
