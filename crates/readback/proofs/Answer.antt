@@ -1,5 +1,5 @@
--- The answers of the writer of a sheet, by the tests that lead to each.
-use mathlib.Core.Path.{_≡_, sym, ap, _∙_}
+-- The room for a sentence, and the answer where it was written.
+use mathlib.Core.Path.{_≡_, ap, _∙_}
 use mathlib.Core.Bool.{true, false}
 use mathlib.Core.List.{List}
 use Prim.Native.Nat.{ℕ, _+_, _-_, _≤_, _<_}
@@ -9,11 +9,11 @@ use lib.Dec.{leb}
 use borrow.Author.Tests.{leb-true, leb-false}
 use Rattle.buffer.specs.Cursor.{Put}
 use Rattle.buffer.proofs.Room.{put-whole}
-use Rattle.text.specs.Answers.{gives, refuses}
+use Rattle.text.specs.Answers.{gives}
 use Rattle.sheet.specs.Sheet.{Sheet, inRange}
 use Rattle.sheet.specs.Sentence.{sentence}
 use Rattle.sheet.specs.Answers.{writing, after}
-use Rattle.sheet.proofs.WriteOne.{refuse-range, refuse-room, write-end}
+use Rattle.sheet.proofs.WriteOne.{write-end}
 
 -- room from a start on, by the test of what is left there
 pub has-room : (at n k : ℕ) → at ≤ n → leb k (n - at) ≡ true → at + k ≤ n
@@ -23,12 +23,6 @@ pub lacks-room : (at n k : ℕ) → at ≤ n → leb k (n - at) ≡ false → n 
 lacks-room at n k h e = let g = leb-false k (n - at) e in omega arith
 
 module _ (d : List ℕ) (at : ℕ) (x : Sheet) where
-  pub answer-range : inRange x ≡ false → (refuses 23 0 ≡ writing d at x) × (d ≡ after d at x)
-  answer-range r = let w = refuse-range d at x r in (sym (w .0), sym (w .1))
-
-  pub answer-no-room : inRange x ≡ true → length d < at + length (sentence x) → (refuses 13 0 ≡ writing d at x) × (d ≡ after d at x)
-  answer-no-room r h = let w = refuse-room d at x r h in (sym (w .0), sym (w .1))
-
   pub answer-end :
       {f : List ℕ} {k : ℕ}
       → inRange x ≡ true
@@ -38,4 +32,4 @@ module _ (d : List ℕ) (at : ℕ) (x : Sheet) where
   answer-end r h p =
       let e = write-end d at x r h in
       let w = put-whole p h in
-      (ap gives (w .1) ∙ sym (e .0), w .0 ∙ sym (e .1))
+      (ap gives (w .1) ∙ e .0, w .0 ∙ e .1)

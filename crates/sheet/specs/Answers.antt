@@ -1,12 +1,11 @@
 -- The answers of the writer and of the reader (document 01, "The sentence" and "Refusal numbers").
-use mathlib.Core.Bool.{Bool, cond, _&&_}
+use mathlib.Core.Bool.{cond}
 use mathlib.Core.List.{List, [], _∷_}
 use mathlib.Core.Option.{Option, none, some}
 use Prim.Native.Nat.{ℕ, zero, suc, _+_}
-use lib.Dec.{leb}
 use lib.ListN.{length, drop}
 use Rattle.text.specs.Answers.{Answer, gives, refuses, andThen, giving}
-use Rattle.buffer.specs.Writing.{written}
+use Rattle.buffer.specs.Writing.{writeText, afterText}
 use Rattle.sheet.specs.declared.Found.{Found}
 use Rattle.sheet.specs.declared.WriteSheet.{WriteSheet}
 use Rattle.sheet.specs.declared.WriteSheet.the-variants.{End, OutOfRange, NoRoom}
@@ -18,20 +17,13 @@ use Rattle.sheet.specs.Reading.{sheetOf, isLine, foundAt}
 
 -- ---- "Writing a sheet: 23, 13."
 
--- the room from the start, the newline included
-abbrev pub hasRoom : List ℕ → ℕ → Sheet → Bool
-hasRoom d at x = leb (at + length (sentence x)) (length d)
-
-unfoldable pub isWritable : List ℕ → ℕ → Sheet → Bool
-isWritable d at x = inRange x && hasRoom d at x
-
--- the answer to writing the sheet x into the buffer d from the offset at: where its sentence ends
+-- the answer to writing the sheet x into the buffer d from the offset at: where its sentence, the newline included, ends
 unfoldable pub writing : List ℕ → ℕ → Sheet → Answer ℕ
-writing d at x = cond (inRange x) (cond (hasRoom d at x) (gives (at + length (sentence x))) (refuses 13 0)) (refuses 23 0)
+writing d at x = cond (inRange x) (writeText d at (sentence x)) (refuses 23 0)
 
 -- what the buffer then holds
 unfoldable pub after : List ℕ → ℕ → Sheet → List ℕ
-after d at x = cond (isWritable d at x) (written d at (sentence x)) d
+after d at x = cond (inRange x) (afterText d at (sentence x)) d
 
 abbrev pub writeAnswer : WriteSheet → Answer ℕ
 writeAnswer (End e) = gives e
