@@ -11,13 +11,13 @@ use lib.IntN.{ℤ}
 use lib.Signed.{mag}
 use lib.ListN.{length, drop}
 use mir.Syntax.{w32}
+use Rattle.text.specs.Answers.{gives, refuses}
 use Rattle.text.specs.Logic.{clash}
 use Rattle.integers.specs.Bits.{read, read-given}
 use Rattle.coordinates.specs.Decimal.{leads}
 use Rattle.coordinates.specs.Place.{latitudeLimit, longitudeLimit, coordinateAt, leadingPair, standingAt, pairOf}
 use Rattle.coordinates.specs.declared.Coordinate.the-variants as coordinate
 use Rattle.coordinates.specs.declared.Place.{Place}
-use Rattle.coordinates.specs.declared.Pair.the-variants as pair
 use Rattle.coordinates.specs.declared.LeadingPair.{LeadingPair}
 use Rattle.coordinates.specs.declared.LeadingPair.the-variants as leading
 use Rattle.coordinates.proofs.Leading.{drop-after}
@@ -73,15 +73,15 @@ stands-at i leading.Fault p e h = clash (cc)
 
 -- a whole text
 module _ (l : List ℕ) where
-  pub no-pair : standingAt 0 (leadingPair l) ≡ leading.Fault → pair.Fault ≡ pairOf l
+  pub no-pair : standingAt 0 (leadingPair l) ≡ leading.Fault → refuses 22 0 ≡ pairOf l
   unfolding pairOf
   no-pair h = rw (stands-none 0 (leadingPair l) h)
 
   module _ (p : Place) (e : ℕ) (h : standingAt 0 (leadingPair l) ≡ leading.At p e) where
-    pub pair-part : (e ≡ length l → ⊥) → pair.Fault ≡ pairOf l
+    pub pair-part : (e ≡ length l → ⊥) → refuses 22 0 ≡ pairOf l
     unfolding pairOf
     pair-part n = rw (stands-at 0 (leadingPair l) p e h .0, ne-eqb (e - 0) (length l) (λ z. n (omega arith)))
 
-    pub pair-whole : e ≡ length l → pair.At p ≡ pairOf l
+    pub pair-whole : e ≡ length l → gives p ≡ pairOf l
     unfolding pairOf
     pair-whole n = rw (stands-at 0 (leadingPair l) p e h .0, eq-eqb (e - 0) (length l) (omega arith))
