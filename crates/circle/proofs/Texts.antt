@@ -6,19 +6,17 @@ use mathlib.Core.Logic.{⊎-elim}
 use Prim.Native.Nat.{ℕ, _+_, _-_, _≤_}
 use native.Mathlib.Nat.{add-sub-cancel-left, zero-add}
 use native.Mathlib.Omega.{arith}
-use lib.Dec.{eqb}
 use lib.ListN.{length, take, drop, length-drop, drop-of-length-le}
 use lib.Seq.{drop-drop}
-use Rattle.text.specs.Answers.{Answer, refuses}
+use Rattle.text.specs.Answers.{Answer, gives, refuses}
 use Rattle.text.specs.Bytes.{spaces, dropSpace}
-use Rattle.text.specs.Logic.{by-test}
+use Rattle.text.specs.Logic.{cond-cases}
 use Rattle.text.specs.Tokens.{onToken, tokens, tokenLength}
 use Rattle.text.proofs.Laws.{tokens-space, tokens-next, token-or-end, spaces-within, token-within}
 use Rattle.coordinates.specs.declared.Place.{Place}
-use Rattle.coordinates.specs.declared.LeadingPair.{LeadingPair}
-use Rattle.coordinates.specs.declared.LeadingPair.the-variants as leading
-use Rattle.coordinates.specs.Place.{pairOf, wholePair, leadingPair, coordinateAt}
-use Rattle.coordinates.specs.Decimal.{radiusOf, isDecimal, places, leads}
+use Rattle.coordinates.specs.Place.{pairOf, coordinateAt}
+use Rattle.coordinates.specs.Decimal.{radiusOf, isRadius, scaled, isDecimal, places, leads}
+use Rattle.coordinates.proofs.Readers.{pair-cases}
 use Rattle.circle.specs.Circle.{circleFrom, circleTokens, circleOf}
 
 -- an empty text is neither a pair nor a radius
@@ -32,12 +30,24 @@ radius-empty = refl
 
 -- and without a radius there is no circle, whatever the pair
 no-radius : (t : List ℕ) → circleFrom (pairOf t) (refuses 22 0) ≡ refuses 22 0
-unfolding pairOf
-no-radius t = go (leadingPair t)
+no-radius t = pair-cases t (λ a. circleFrom a (refuses 22 0) ≡ refuses 22 0) (λ p. refl) refl
+
+-- a text is a circle, or it is refused with 22
+pub circle-cases : (l : List ℕ) (P : Answer (Place × ℕ) → Type 0) → ((c : Place) (m : ℕ) → P (gives (c, m))) → P (refuses 22 0) → P (circleOf l)
+unfolding circleOf circleTokens radiusOf
+circle-cases l P f g = go (tokens l)
   where
-    go : (o : LeadingPair) → circleFrom (wholePair (length t) o) (refuses 22 0) ≡ refuses 22 0
-    go (leading.At p e) = by-test (eqb e (length t)) (λ q. rw q) (λ q. rw q)
-    go leading.Fault = refl
+    around : (a b : List ℕ) → P (circleFrom (pairOf a) (radiusOf b))
+    around a b =
+        pair-cases a (λ p. P (circleFrom p (radiusOf b)))
+        (λ c. cond-cases (λ r. P (circleFrom (gives c) r)) (isRadius b) (gives (scaled 3 b)) (refuses 22 0) (λ t. f c (scaled 3 b)) (λ t. g))
+        g
+
+    go : (ts : List (List ℕ)) → P (circleTokens ts)
+    go [] = g
+    go (a ∷ []) = g
+    go (a ∷ b ∷ []) = around a b
+    go (a ∷ b ∷ c ∷ ts) = g
 
 -- the first token of a text, and what stands after it; both empty where it has none
 abbrev token : List ℕ → List ℕ

@@ -7,15 +7,16 @@ use Prim.Native.Nat.{ℕ, _+_, _-_, _≤_, _<_}
 use native.Mathlib.Nat.{zero-add}
 use native.Mathlib.Omega.{arith}
 use borrow.Author.Tests.{eq-eqb, ne-eqb}
+use lib.Dec.{eqb}
 use lib.IntN.{ℤ}
 use lib.Signed.{mag}
 use lib.ListN.{length, drop}
 use mir.Syntax.{w32}
-use Rattle.text.specs.Answers.{gives, refuses}
-use Rattle.text.specs.Logic.{clash}
+use Rattle.text.specs.Answers.{Answer, gives, refuses}
+use Rattle.text.specs.Logic.{cond-cases, clash}
 use Rattle.integers.specs.Bits.{read, read-given}
 use Rattle.coordinates.specs.Decimal.{leads}
-use Rattle.coordinates.specs.Place.{latitudeLimit, longitudeLimit, coordinateAt, leadingPair, standingAt, pairOf}
+use Rattle.coordinates.specs.Place.{latitudeLimit, longitudeLimit, coordinateAt, leadingPair, standingAt, wholePair, pairOf}
 use Rattle.coordinates.specs.declared.Coordinate.the-variants as coordinate
 use Rattle.coordinates.specs.declared.Place.{Place}
 use Rattle.coordinates.specs.declared.LeadingPair.{LeadingPair}
@@ -71,7 +72,15 @@ stands-at i (leading.At q n) p e h =
     (cc, omega arith)
 stands-at i leading.Fault p e h = clash (cc)
 
--- a whole text
+-- a whole text: it is a pair, or it is refused with 22
+pub pair-cases : (l : List ℕ) (P : Answer Place → Type 0) → ((p : Place) → P (gives p)) → P (refuses 22 0) → P (pairOf l)
+unfolding pairOf
+pair-cases l P f g = go (leadingPair l)
+  where
+    go : (o : LeadingPair) → P (wholePair (length l) o)
+    go (leading.At p e) = cond-cases P (eqb e (length l)) (gives p) (refuses 22 0) (λ t. f p) (λ t. g)
+    go leading.Fault = g
+
 module _ (l : List ℕ) where
   pub no-pair : standingAt 0 (leadingPair l) ≡ leading.Fault → refuses 22 0 ≡ pairOf l
   unfolding pairOf
