@@ -14,7 +14,6 @@ use Rattle.document.specs.declared.Check.the-variants as check
 use Rattle.document.specs.Documents.{documentOf, checked, checkOf}
 use Rattle.document.proofs.Schema.{parts-limit}
 use Rattle.sheet.specs.Sentence.{longest}
-use Rattle.report.specs.declared.Report.the-variants as report
 use Rattle.report.specs.Lines.{refusalLine, linesFrom, linesOf, reportOf, reportRoom, reported, reportedIn}
 use Rattle.report.proofs.Refusing.{refusal-le}
 use Rattle.report.proofs.Following.{lines-le}
@@ -64,15 +63,15 @@ report-le l = go (checkOf l) refl
 
 module _ (d l : List ℕ) where
   -- where the buffer is too small
-  pub no-room : length d < reportRoom → (report.NoRoom ≡ reported d l) × (d ≡ reportedIn d l)
+  pub no-room : length d < reportRoom → (refuses 13 0 ≡ reported d l) × (d ≡ reportedIn d l)
   unfolding reported reportedIn
   no-room h = let t = lt-ltb (length d) reportRoom h in (rw t, rw t)
 
   -- where there is room, and t is what is written
   pub has-room :
-      {t e : List ℕ} {r : ℕ} → reportRoom ≤ length d → reportOf l ≡ t → Put d 0 t e r → (report.End r ≡ reported d l) × (e ≡ reportedIn d l)
+      {t e : List ℕ} {r : ℕ} → reportRoom ≤ length d → reportOf l ≡ t → Put d 0 t e r → (gives r ≡ reported d l) × (e ≡ reportedIn d l)
   unfolding reported reportedIn
   has-room {t} {e} {r} h w p =
       let u = le-ltb (length d) reportRoom h in
       let v = put-whole (rw (sym w) at p) (omega (arith, report-le l)) in
-      (rw u (ap report.End (v .1 ∙ zero-add _)), rw u (v .0))
+      (rw u (ap gives (v .1 ∙ zero-add _)), rw u (v .0))
