@@ -25,7 +25,7 @@ line-le : (l : List ℕ) (n : ℕ) → length (lineAt l n) ≤ longest
 line-le l n = go (capSheet n l) refl
   where
     go : (r : Answer Found) → capSheet n l ≡ r → length (lineThen l [] r) ≤ longest
-    go (gives x) e = rw append-nil (sentence-le (sheetIn l x) (drawn-in-range n l x e))
+    go (gives x) e = rw append-nil (sentence-le (sheetIn l x) (drawn-in-range l n x e))
     go (refuses k p) e = omega (arith, refusal-le k p)
 
 -- ---- a line in front of the next ones

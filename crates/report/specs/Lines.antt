@@ -12,8 +12,6 @@ use Rattle.buffer.specs.Writing.{written}
 use Rattle.sheet.specs.declared.Found.{Found}
 use Rattle.sheet.specs.Sentence.{sentence}
 use Rattle.sheet.specs.Reading.{sheetIn}
-use Rattle.document.specs.declared.Check.{Check}
-use Rattle.document.specs.declared.Check.the-variants as check
 use Rattle.document.specs.Documents.{checkOf}
 use Rattle.parts.specs.Sheets.{capSheet}
 use Rattle.report.specs.declared.Report.{Report}
@@ -42,10 +40,10 @@ linesFrom l zero n = []
 linesFrom l (suc k) n = lineThen l (linesFrom l k (n + 1)) (capSheet n l)
 
 -- "each part's sentence (part 0's if none)"
-abbrev pub linesOf : List ℕ → Check → List ℕ
-linesOf l (check.Accepted zero) = linesFrom l 1 0
-linesOf l (check.Accepted (suc k)) = linesFrom l (suc k) 1
-linesOf l (check.Refused n p) = refusalLine n p
+abbrev pub linesOf : List ℕ → Answer ℕ → List ℕ
+linesOf l (gives zero) = linesFrom l 1 0
+linesOf l (gives (suc k)) = linesFrom l (suc k) 1
+linesOf l (refuses n p) = refusalLine n p
 
 -- all that the program writes about the document l
 unfoldable pub reportOf : List ℕ → List ℕ
