@@ -3,6 +3,7 @@ use mathlib.Core.Path.{_≡_, refl, subst}
 use mathlib.Core.List.{List, [], _∷_, _++_}
 use Prim.Native.Nat.{ℕ, zero, suc, _≤_}
 use native.Mathlib.Omega.{arith}
+use lib.Dec.{T}
 use lib.ListN.{length}
 use Rattle.text.specs.Answers.{Answer, gives, refuses}
 use Rattle.document.specs.declared.Mode.{Mode}
@@ -12,17 +13,18 @@ use Rattle.document.specs.declared.Step.the-variants.{Next, Done, Refuse
 use Rattle.document.specs.Elements.{Element, given}
 use Rattle.document.specs.Constructs.{stepOf}
 use Rattle.document.specs.Documents.{elementsOf, begin, after, run, readFrom, documentOf}
-use Rattle.document.proofs.Events.{refusal}
+use Rattle.document.proofs.Numbers.{isNumber}
+use Rattle.document.proofs.Events.{Refusal, refusal}
 use Rattle.document.proofs.Runs.{first-holds}
 
 -- something that holds where the document is done, and before each step if it holds after it
 module _ (l : List ℕ) (Q : Mode → List Element → Type 0)
     (last : (m : Mode) → stepOf l m ≡ Done → Q m [])
     (front : (m m′ : Mode) (e : Event) (es : List Element) → stepOf l m ≡ Next m′ e → Q m′ es → Q m (elementsOf l e ++ es)) where
-  -- of a verdict from a mode on: of its elements, or its offset lies in the document or at its length
+  -- of a verdict from a mode on: of its elements, or of a refusal
   abbrev VerdictHolds : Mode → Answer (List Element) → Type 0
   VerdictHolds m (gives es) = Q m es
-  VerdictHolds m (refuses n p) = p ≤ length l
+  VerdictHolds m (refuses n p) = Refusal l n p
 
   given-holds : (m m′ : Mode) (e : Event) (v : Answer (List Element)) → stepOf l m ≡ Next m′ e → VerdictHolds m′ v → VerdictHolds m (given (elementsOf l e) v)
   given-holds m m′ e (gives es) p h = front m m′ e es p h
@@ -30,7 +32,7 @@ module _ (l : List ℕ) (Q : Mode → List Element → Type 0)
 
   run-holds : (n : ℕ) (m : Mode) → VerdictHolds m (run n l m)
   unfolding run
-  run-holds zero m = omega arith
+  run-holds zero m = (omega arith, tt)
   run-holds (suc n) m = go (stepOf l m) refl (run-holds n)
     where
       go : (r : Step) → stepOf l m ≡ r → ((m′ : Mode) → VerdictHolds m′ (run n l m′)) → VerdictHolds m (after l (run n l) r)
@@ -41,7 +43,7 @@ module _ (l : List ℕ) (Q : Mode → List Element → Type 0)
   -- of the whole document, whose first construct may stand anywhere
   abbrev DocumentHolds : Answer (List Element) → Type 0
   DocumentHolds (gives es) = (at : ℕ) × Q (begin at) es
-  DocumentHolds (refuses n p) = p ≤ length l
+  DocumentHolds (refuses n p) = Refusal l n p
 
   document-holds : DocumentHolds (documentOf l)
   unfolding documentOf
@@ -56,11 +58,18 @@ module _ (l : List ℕ) (Q : Mode → List Element → Type 0)
   pub accepted-holds : (es : List Element) → documentOf l ≡ gives es → (at : ℕ) × Q (begin at) es
   accepted-holds es d = subst DocumentHolds d document-holds
 
--- every refusal's offset lies in the document or at its length
-pub offset-within : (l : List ℕ) (n p : ℕ) → documentOf l ≡ refuses n p → p ≤ length l
-offset-within l n p d =
+document-refusal : (l : List ℕ) (n p : ℕ) → documentOf l ≡ refuses n p → Refusal l n p
+document-refusal l n p d =
     let All : Mode → List Element → Type 0 = λ m es. Prim.Unit in
     subst (DocumentHolds l All (λ m q. tt) (λ m m′ e es q h. tt)) d (document-holds l All (λ m q. tt) (λ m m′ e es q h. tt))
+
+-- every refusal's offset lies in the document or at its length
+pub offset-within : (l : List ℕ) (n p : ℕ) → documentOf l ≡ refuses n p → p ≤ length l
+offset-within l n p d = document-refusal l n p d .0
+
+-- its number is one of 14 to 19 and 22
+pub refusal-numbers : (l : List ℕ) (n p : ℕ) → documentOf l ≡ refuses n p → T (isNumber n)
+refusal-numbers l n p d = document-refusal l n p d .1
 
 -- ---- every element
 

@@ -6,7 +6,7 @@ use Prim.Native.Nat.{ℕ, zero, suc, _+_, _≤_, _<_}
 use Prim.Native.Char.{code}
 use native.Mathlib.Omega.{arith}
 use borrow.Author.Tests.{leb-true, leb-false, eqb-true}
-use lib.Dec.{eqb, leb}
+use lib.Dec.{T, eqb, leb}
 use lib.ListN.{length, getD, drop}
 use Rattle.text.specs.Ascii.{ascii}
 use Rattle.text.specs.Logic.{cond-cases, and-left, eql}
@@ -40,6 +40,7 @@ use Rattle.document.specs.Elements.{starts, total}
 use Rattle.document.specs.Tags.{moved, maxInfos, afterPrefix, nameIn, ruled, textStep, enterStep, isMisplaced, openStep, emptyStep, otherStep, boundStep, alertStep, isAlert, startStep, closeStep, isRightEnd, endStep, endedStep, tagEndStep, tagStep}
 use Rattle.document.specs.Constructs.{commentStep, constructStep, afterSpace, stepOf}
 use Rattle.document.specs.Documents.{elementsOf}
+use Rattle.document.proofs.Numbers.{isNumber, rule-number}
 
 -- ---- what holds of a step
 
@@ -74,10 +75,14 @@ pub record Onward (l : List ℕ) (m m′ : Mode) (e : Event) : Type 0 where
   pub limited : m .infos ≤ maxInfos → m′ .infos ≤ maxInfos
   pub event : SoundEvent l (m .state) e
 
+-- what holds of a refusal: its offset lies in the document or at its length
+abbrev pub Refusal : List ℕ → (number offset : ℕ) → Type 0
+Refusal l n p = (p ≤ length l) × T (isNumber n)
+
 abbrev pub SoundStep : List ℕ → Mode → Step → Type 0
 SoundStep l m (Next m′ e) = Onward l m m′ e
 SoundStep l m Done = m .state ≡ over
-SoundStep l m (Refused n p) = p ≤ length l
+SoundStep l m (Refused n p) = Refusal l n p
 
 -- ---- the walk
 
@@ -101,7 +106,7 @@ module _ (l : List ℕ) (m : Mode) (inside : m .at < length l) where
   ruled-sound leaf c from until zero g b r o k f =
       on l m until (nextOf (m .state) c) leaf (Text c from until) (omega arith) k refl refl
       (record { leaf = b; rule = sym r; ordered = o; inside = k; clean = f })
-  ruled-sound leaf c from until (suc n) g b r o k f = omega arith
+  ruled-sound leaf c from until (suc n) g b r o k f = (omega arith, rw (← r) at (rule-number c (part l from until)))
 
   text-sound :
       (c from : ℕ) → m .at < from → class.lastContainer < c → (r : Content) → texts.content l from ≡ r
@@ -109,15 +114,15 @@ module _ (l : List ℕ) (m : Mode) (inside : m .at < length l) where
   text-sound c from g b (content.Clean e) p =
       let k = clean-within l from e p in
       ruled-sound c c from e (textRule c (part l from e)) g b refl (k .0) (omega arith) (clean-at l from e p)
-  text-sound c from g b (content.Fault q) p = let k = fault-within l from q p in omega arith
-  text-sound c from g b content.Unended p = omega arith
+  text-sound c from g b (content.Fault q) p = let k = fault-within l from q p in (omega arith, tt)
+  text-sound c from g b content.Unended p = (omega arith, tt)
 
   enter-sound : (c next : ℕ) → m .at < next → next ≤ length l → c ≤ class.lastContainer → SoundStep l m (enterStep m (nextOf (m .state) c) c next)
   unfolding starts
   enter-sound c next g k b =
       cases l m (eqb c class.info) _ _
       (λ e.
-      cases l m (leb maxInfos (m .infos)) _ _ (λ t. omega arith)
+      cases l m (leb maxInfos (m .infos)) _ _ (λ t. (omega arith, tt))
       (λ t.
       record {
         later = g;
@@ -132,7 +137,7 @@ module _ (l : List ℕ) (m : Mode) (inside : m .at < length l) where
   open-sound : (c next : ℕ) → m .at < next → next ≤ length l → SoundStep l m (openStep l m c next)
   unfolding openStep
   open-sound c next g k =
-      cases l m (isMisplaced m c) _ _ (λ e. omega arith) λ e.
+      cases l m (isMisplaced m c) _ _ (λ e. (omega arith, tt)) λ e.
       cases l m (leb c class.lastContainer) _ _
       (λ t. enter-sound c next g k (leb-true c class.lastContainer t))
       (λ t. text-sound c next g (leb-false c class.lastContainer t) (texts.content l next) refl)
@@ -140,7 +145,7 @@ module _ (l : List ℕ) (m : Mode) (inside : m .at < length l) where
   empty-sound : (c next : ℕ) → m .at < next → next ≤ length l → SoundStep l m (emptyStep m c next)
   unfolding emptyStep
   empty-sound c next g k =
-      cases l m (isMisplaced m c || leb c class.lastContainer) _ _ (λ e. omega arith) λ e.
+      cases l m (isMisplaced m c || leb c class.lastContainer) _ _ (λ e. (omega arith, tt)) λ e.
       ruled-sound 0 c next next (textRule c []) g (leb-false c class.lastContainer (or-right (isMisplaced m c) (leb c class.lastContainer) e))
       (ap (textRule c) (part-none l next next (omega arith))) (omega arith) k
       (λ i a b. absurd (omega arith))
@@ -156,7 +161,7 @@ module _ (l : List ℕ) (m : Mode) (inside : m .at < length l) where
   other-sound n g (tail.Empty next) p =
       let k = tail-empty l n next p in
       empty-sound (class.classOf (nameIn l m (m .at + 1) n)) next (omega arith) (k .1)
-  other-sound n g tail.Fault p = omega arith
+  other-sound n g tail.Fault p = (omega arith, tt)
 
   bound-sound : (n p u next : ℕ) → m .at < next → next ≤ length l → m .state ≡ before → SoundStep l m (boundStep l m n p u next)
   unfolding boundStep starts
@@ -171,19 +176,19 @@ module _ (l : List ℕ) (m : Mode) (inside : m .at < length l) where
         limited = λ f. f;
         event = omega arith;
       })
-      (λ e. omega arith)
+      (λ e. (omega arith, tt))
 
   alert-sound : (n : ℕ) → m .at < n → m .state ≡ before → (r : NameSpace) → nameSpace l n ≡ r → SoundStep l m (alertStep l m n r)
   alert-sound n g b (space.Bound p u next) q =
       let k = name-space-within l n p u next q in
       bound-sound n p u next (omega arith) (k .1) b
-  alert-sound n g b space.Empty q = omega arith
-  alert-sound n g b space.Fault q = omega arith
+  alert-sound n g b space.Empty q = (omega arith, tt)
+  alert-sound n g b space.Fault q = (omega arith, tt)
 
   start-sound : (n : ℕ) → m .at < n → SoundStep l m (startStep l m n)
   unfolding startStep isAlert
   start-sound n g =
-      cases l m (eqb n (m .at + 1) || eqb (m .state) over) _ _ (λ e. omega arith) λ e.
+      cases l m (eqb n (m .at + 1) || eqb (m .state) over) _ _ (λ e. (omega arith, tt)) λ e.
       cases l m (isAlert l m n) _ _
       (λ f. alert-sound n g (eqb-true (m .state) before (and-left (eqb (m .state) before) _ f)) (nameSpace l n) refl)
       (λ f. other-sound n g (tags.tail l n) refl)
@@ -192,15 +197,15 @@ module _ (l : List ℕ) (m : Mode) (inside : m .at < length l) where
   unfolding closeStep starts
   close-sound next g k =
       cases l m (not (eqb (m .leaf) 0)) _ _ (λ e. on l m next (m .state) 0 Silent g k refl refl tt) λ e.
-      cases l m (eqb (nextOf (m .state) 0) 0) _ _ (λ f. omega arith)
+      cases l m (eqb (nextOf (m .state) 0) 0) _ _ (λ f. (omega arith, tt))
       (λ f. on l m next (nextOf (m .state) 0) 0 (Closed (containerOf (m .state))) g k refl refl refl)
 
   end-sound : (n : ℕ) → m .at < n → (t : Tail) → tags.tail l n ≡ t → SoundStep l m (endStep l m n t)
   end-sound n g (tail.Open next) p =
       let k = tail-open l n next p in
-      cases l m (isRightEnd l m n) _ _ (λ e. close-sound next (omega arith) (k .1)) (λ e. omega arith)
-  end-sound n g (tail.Empty next) p = omega arith
-  end-sound n g tail.Fault p = omega arith
+      cases l m (isRightEnd l m n) _ _ (λ e. close-sound next (omega arith) (k .1)) (λ e. (omega arith, tt))
+  end-sound n g (tail.Empty next) p = (omega arith, tt)
+  end-sound n g tail.Fault p = (omega arith, tt)
 
   tag-end-sound : (f : TagEnd) → SoundStep l m (tagEndStep l m f)
   unfolding endedStep
@@ -208,27 +213,27 @@ module _ (l : List ℕ) (m : Mode) (inside : m .at < length l) where
       cases l m (startsWith (ascii "</") (drop (m .at) l)) _ _
       (λ t. let n = tags.nameEnd l (m .at + 2) in end-sound n (omega arith) (tags.tail l n) refl)
       (λ t. start-sound (tags.nameEnd l (m .at + 1)) (omega arith))
-  tag-end-sound Unended = omega arith
+  tag-end-sound Unended = (omega arith, tt)
 
   comment-sound : (c : Comment) → comments.comment l (m .at + 4) ≡ c → SoundStep l m (commentStep l m c)
   unfolding starts
   comment-sound (comment.After next) p =
       let k = comment-within l (m .at + 4) next p in
-      cases l m (eqb (m .leaf) 0) _ _ (λ e. on l m next (m .state) 0 Silent (omega arith) (k .1) refl refl tt) (λ e. omega arith)
-  comment-sound comment.Fault p = omega arith
-  comment-sound comment.Unended p = omega arith
+      cases l m (eqb (m .leaf) 0) _ _ (λ e. on l m next (m .state) 0 Silent (omega arith) (k .1) refl refl tt) (λ e. (omega arith, tt))
+  comment-sound comment.Fault p = (omega arith, tt)
+  comment-sound comment.Unended p = (omega arith, tt)
 
 construct-sound : (l : List ℕ) (m : Mode) → SoundStep l m (constructStep l m)
 unfolding constructStep tagStep
 construct-sound l m =
     cases l m (leb (length l) (m .at)) _ _
-    (λ t. cases l m (eqb (m .state) over) _ _ (λ e. eqb-true (m .state) over e) (λ e. omega arith))
+    (λ t. cases l m (eqb (m .state) over) _ _ (λ e. eqb-true (m .state) over e) (λ e. (omega arith, tt)))
     λ t.
     let h = leb-false (length l) (m .at) t in
     cases l m (startsWith (ascii "<!--") (drop (m .at) l)) _ _ (λ f. comment-sound l m h (comments.comment l (m .at + 4)) refl) λ f.
     cases l m (eqb (getD l (m .at) 0) (code "<")) _ _
     (λ g. tag-end-sound l m h (tags.tagEnd 0 (m .at + 1) (drop (m .at + 1) l)))
-    (λ g. omega arith)
+    (λ g. (omega arith, tt))
 
 -- so is a construct after white space
 pub step-sound : (l : List ℕ) (m : Mode) → SoundStep l m (stepOf l m)
@@ -252,8 +257,8 @@ step-sound l m = go (constructStep l (afterSpace l m)) (construct-sound l (after
 pub onward : (l : List ℕ) (m m′ : Mode) (e : Event) → stepOf l m ≡ Next m′ e → Onward l m m′ e
 onward l m m′ e p = subst (SoundStep l m) p (step-sound l m)
 
--- the offset of a step's refusal
-pub refusal : (l : List ℕ) (m : Mode) (n p : ℕ) → stepOf l m ≡ Refused n p → p ≤ length l
+-- what holds of a step's refusal
+pub refusal : (l : List ℕ) (m : Mode) (n p : ℕ) → stepOf l m ≡ Refused n p → Refusal l n p
 refusal l m n p q = subst (SoundStep l m) q (step-sound l m)
 
 -- the document ends after the alert only

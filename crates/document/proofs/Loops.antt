@@ -5,16 +5,15 @@ use Prim.Native.Nat.{ℕ, suc, _+_, _-_, _<_}
 use native.Mathlib.Omega.{arith}
 use lib.ListN.{length}
 use Rattle.text.specs.Parts.{part}
-use Rattle.text.specs.Answers.{Answer, gives, refuses}
+use Rattle.text.specs.Answers.{Answer, gives, refuses, giving}
 use Rattle.document.specs.declared.Mode.{Mode}
 use Rattle.document.specs.declared.Event.{Event}
 use Rattle.document.specs.declared.Event.the-variants.{Silent, Opened, Text, Closed}
 use Rattle.document.specs.declared.Step.{Step}
 use Rattle.document.specs.declared.Step.the-variants.{Next, Done, Refused}
-use Rattle.document.specs.declared.Check.the-variants as check
 use Rattle.document.specs.Elements.{Element, opened, text, closed, given, starts, total, fold, counted, gather, answer}
 use Rattle.document.specs.Constructs.{stepOf}
-use Rattle.document.specs.Documents.{elementsOf, firstStep, after, readFrom, documentOf, checked, checkOf}
+use Rattle.document.specs.Documents.{elementsOf, firstStep, after, readFrom, documentOf, checkOf}
 use Rattle.document.proofs.Events.{SoundStep, step-sound}
 use Rattle.document.proofs.Runs.{first-holds, read-step}
 
@@ -124,12 +123,12 @@ module _ {F R : Type 0} {done : ℕ → F → R} {stop : ℕ → ℕ → R} {not
 
 -- ---- a check gathers nothing
 
-check-answer : (v : Answer (List Element)) → answer (λ (n : ℕ) (u : Prim.Unit {0}). check.Accepted n) check.Refused (λ n u x. u) 0 tt v ≡ checked v
-check-answer (gives es) = ap check.Accepted (omega arith)
+check-answer : (v : Answer (List Element)) → answer (λ (n : ℕ) (u : Prim.Unit {0}). gives n) refuses (λ n u x. u) 0 tt v ≡ giving total v
+check-answer (gives es) = ap gives (omega arith)
 check-answer (refuses n p) = refl
 
 abbrev pub Checks : List ℕ → Step → ℕ → Type 0
-Checks l step k = Reads (λ (n : ℕ) (u : Prim.Unit {0}). check.Accepted n) check.Refused (λ n u x. u) l (checkOf l) step k tt
+Checks l step k = Reads (λ (n : ℕ) (u : Prim.Unit {0}). gives n) refuses (λ n u x. u) l (checkOf l) step k tt
 
 pub checks-first : (l : List ℕ) (step : Step) → step ≡ firstStep l → Checks l step 0
 unfolding checkOf

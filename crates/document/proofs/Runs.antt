@@ -1,7 +1,7 @@
 -- The document's definition unfolds step by step.
 use mathlib.Core.Path.{_≡_, refl, ap}
 use mathlib.Core.List.{List}
-use Prim.Native.Nat.{ℕ, zero, suc, _-_, _≤_, _<_}
+use Prim.Native.Nat.{ℕ, zero, suc, _-_, _<_}
 use native.Mathlib.Omega.{arith}
 use lib.Dec.{ltb}
 use lib.ListN.{length}
@@ -17,18 +17,18 @@ use Rattle.document.specs.declared.Step.the-variants.{Next, Done, Refuse
 use Rattle.document.specs.Elements.{given}
 use Rattle.document.specs.Constructs.{stepOf}
 use Rattle.document.specs.Documents.{elementsOf, begin, prologStep, maxLength, firstStep, after, run, readFrom}
-use Rattle.document.proofs.Events.{onward}
+use Rattle.document.proofs.Events.{Refusal, onward}
 
 -- what holds of a refusal in the document and of a step to any offset holds of the first step
 pub first-holds :
-    (l : List ℕ) (P : Step → Type 0) → ((n p : ℕ) → p ≤ length l → P (Refused n p)) → ((at : ℕ) → P (Next (begin at) Silent)) → P (firstStep l)
+    (l : List ℕ) (P : Step → Type 0) → ((n p : ℕ) → Refusal l n p → P (Refused n p)) → ((at : ℕ) → P (Next (begin at) Silent)) → P (firstStep l)
 unfolding firstStep
 first-holds l P stop on =
-    cond-cases P (ltb maxLength (length l)) _ _ (λ e. stop 14 0 (omega arith)) (λ e. go (opening.prolog l) refl)
+    cond-cases P (ltb maxLength (length l)) _ _ (λ e. stop 14 0 (omega arith, tt)) (λ e. go (opening.prolog l) refl)
   where
     go : (r : Prolog) → opening.prolog l ≡ r → P (prologStep r)
     go (prolog.After at) q = on at
-    go (prolog.Fault p) q = stop 15 p (prolog-fault l p q)
+    go (prolog.Fault p) q = stop 15 p (prolog-fault l p q, tt)
 
 -- two numbers of constructs above the number of bytes that are left are all one
 same-run : (l : List ℕ) (f g : ℕ) (m : Mode) → length l - m .at < f → length l - m .at < g → run f l m ≡ run g l m

@@ -5,7 +5,7 @@ use Prim.Native.Nat.{ℕ, zero, suc}
 use lib.Dec.{ltb}
 use lib.ListN.{length}
 use Rattle.text.specs.Parts.{part}
-use Rattle.text.specs.Answers.{Answer, gives, refuses}
+use Rattle.text.specs.Answers.{Answer, gives, refuses, giving}
 use Rattle.xml.specs.declared.Prolog.{Prolog}
 use Rattle.xml.specs.declared.Prolog.the-variants as prolog
 use Rattle.xml.specs.Opening as opening
@@ -62,10 +62,10 @@ readFrom l m = run (suc (length l)) l m
 unfoldable pub documentOf : List ℕ → Answer (List Element)
 documentOf l = after l (readFrom l) (firstStep l)
 
--- the answer to checking a document: accepted with the number of parts, or refused with number and place
-abbrev pub checked : Answer (List Element) → Check
-checked (gives es) = check.Accepted (total es)
-checked (refuses n p) = check.Refused n p
+-- the answer to checking a document: its number of parts, or the refusal
+unfoldable pub checkOf : List ℕ → Answer ℕ
+checkOf l = giving total (documentOf l)
 
-unfoldable pub checkOf : List ℕ → Check
-checkOf l = checked (documentOf l)
+abbrev pub checkAnswer : Check → Answer ℕ
+checkAnswer (check.Accepted n) = gives n
+checkAnswer (check.Refused n p) = refuses n p

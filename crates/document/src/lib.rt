@@ -1,7 +1,7 @@
 // CAP 1.2 documents: which are accepted, and why one is refused.
 use xml::Prolog;
 ghost use mathlib.Core.Path.{_≡_};
-ghost use Rattle.document.specs.Documents.{firstStep, checkOf};
+ghost use Rattle.document.specs.Documents.{firstStep, checkOf, checkAnswer};
 
 pub mod constructs; // constructs.rt: one construct
 mod elements; // elements.rt: after a start tag
@@ -60,7 +60,7 @@ pub fn first_step(s: &[u8]) -> Step
 
 // Checks a document: accepted with its number of parts, or refused with number and place.
 pub fn check_document(s: &[u8]) -> Check
-    ensures { λ r. ⌜ r ≡ checkOf (now (s .entry)) ⌝ }
+    ensures { λ r. ⌜ checkAnswer r ≡ checkOf (now (s .entry)) ⌝ }
 {
     let mut step = first_step(s);
     let mut infos = 0;

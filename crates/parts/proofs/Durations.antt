@@ -10,6 +10,7 @@ use lib.IntN.{ℤ, pos, negsuc, natAbs, _-ℤ_}
 use lib.Signed.{mag, nonNeg, leZ}
 use mir.Syntax.{w32, w64}
 use mir.Val.{Fits, SFits}
+use Rattle.text.specs.Answers.{gives, refuses}
 use Rattle.text.specs.Logic.{and-right, clash}
 use Rattle.integers.specs.Magnitude.{abs-sub}
 use Rattle.integers.specs.Bits.{read, read-given, read-small}
@@ -19,7 +20,6 @@ use Rattle.time.specs.declared.Time.the-variants.{Instant, Fault}
 use Rattle.time.specs.Time.{timeOf}
 use Rattle.time.proofs.Range.{range}
 use Rattle.sheet.specs.declared.Lasting.the-variants as lasting
-use Rattle.parts.specs.declared.Lasts.the-variants as lasts
 use Rattle.parts.specs.Sheets.{between, startOf, lastsFrom}
 use Rattle.parts.specs.Gathering.{farthest, isNear}
 
@@ -52,10 +52,10 @@ module _ (start end : ℤ) (near : (natAbs start ≤ farthest) × (natAbs end �
     pub far-cast : T (nonNeg (read w64 (read w64 end -ℤ read w64 start))) × Fits w32 (natAbs (read w64 (read w64 end -ℤ read w64 start)))
     far-cast = lasting-fits (read w64 (read w64 end -ℤ read w64 start)) e
 
-    pub far-stated : lasts.Stated (lasting.Seconds (natAbs (read w64 (read w64 end -ℤ read w64 start)))) ≡ lastsFrom (Instant start) (Instant end)
+    pub far-stated : gives (lasting.Seconds (natAbs (read w64 (read w64 end -ℤ read w64 start)))) ≡ lastsFrom (Instant start) (Instant end)
     far-stated = rw (← far-is) (rw (between-tested (read w64 (read w64 end -ℤ read w64 start)), e) refl)
 
-  pub far-out : tested (read w64 (read w64 end -ℤ read w64 start)) ≡ false → lasts.OutOfRange ≡ lastsFrom (Instant start) (Instant end)
+  pub far-out : tested (read w64 (read w64 end -ℤ read w64 start)) ≡ false → refuses 7 0 ≡ lastsFrom (Instant start) (Instant end)
   far-out e = rw (← far-is) (rw (between-tested (read w64 (read w64 end -ℤ read w64 start)), e) refl)
 
 -- ---- instants that a match gave

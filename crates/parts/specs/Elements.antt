@@ -4,6 +4,7 @@ use mathlib.Core.List.{List, [], _∷_}
 use Prim.Native.Nat.{ℕ, _+_}
 use lib.Dec.{eqb, leb}
 use lib.ListN.{length}
+use Rattle.text.specs.Answers.{Answer, gives, refuses}
 use Rattle.sheet.specs.declared.Span.{Span}
 use Rattle.schema.specs.Classes as class
 use Rattle.document.specs.Elements.{Element, opened, text, closed, isStart, total, fold}
@@ -24,8 +25,12 @@ abbrev pub partOf : ℕ → List Element → List Element
 partOf n es = within 0 n es
 
 -- "counted from 1; a document with none is asked for part 0"; 21: "asked part .. isn't there"
-unfoldable pub lookUp : (part total : ℕ) → Lookup
-lookUp part total = cond ((eqb part 0 && eqb total 0) || (leb 1 part && leb part total)) (There part) Missing
+unfoldable pub lookUp : (part total : ℕ) → Answer ℕ
+lookUp part total = cond ((eqb part 0 && eqb total 0) || (leb 1 part && leb part total)) (gives part) (refuses 21 0)
+
+abbrev pub lookupAnswer : Lookup → Answer ℕ
+lookupAnswer (There n) = gives n
+lookupAnswer Missing = refuses 21 0
 
 -- where the text of an element stands
 abbrev pub spanOf : ℕ → List ℕ → Span

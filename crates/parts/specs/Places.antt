@@ -3,7 +3,7 @@ use mathlib.Core.Bool.{Bool, true, false, cond, _||_}
 use mathlib.Core.List.{List, [], _∷_}
 use Prim.Native.Nat.{ℕ}
 use lib.Dec.{eqb}
-use Rattle.text.specs.Answers.{Answer, gives, refuses}
+use Rattle.text.specs.Answers.{Answer, gives, refuses, andThen}
 use Rattle.coordinates.specs.declared.Place.{Place}
 use Rattle.coordinates.specs.declared.Inclusion.{Inclusion}
 use Rattle.coordinates.specs.declared.Inclusion.the-variants as inclusion
@@ -13,8 +13,6 @@ use Rattle.circle.specs.Circle.{circleHolds}
 use Rattle.schema.specs.Classes as class
 use Rattle.document.specs.Elements.{Element, opened, text, closed, total}
 use Rattle.document.specs.Documents.{documentOf}
-use Rattle.parts.specs.declared.Lookup.{Lookup}
-use Rattle.parts.specs.declared.Lookup.the-variants.{There, Missing}
 use Rattle.parts.specs.declared.CapPlace.{CapPlace}
 use Rattle.parts.specs.declared.CapPlace.the-variants as placed
 use Rattle.parts.specs.Elements.{partOf, lookUp}
@@ -47,34 +45,25 @@ anyHolds p es = anyText (shapeHolds p) es
 
 -- "A part answers inside if any of its shapes holds the place, else outside, or no shape where it has
 -- neither polygon nor circle, as part 0 never has"
-abbrev pub placedAmong : (holds any : Bool) → CapPlace
-placedAmong holds any = cond holds placed.Inside (cond any placed.Outside placed.NoShape)
+pub data Side : Type 0 where
+  inside : Side
+  outside : Side
+  noShape : Side
 
-abbrev pub placedInPart : Place → (holds any : Bool) → Lookup → CapPlace
-placedInPart p holds any Missing = placed.NotThere
-placedInPart p holds any (There n) = cond (inRange p) (placedAmong holds any) placed.OutOfRange
+abbrev pub sideOf : (holds any : Bool) → Side
+sideOf holds any = cond holds inside (cond any outside noShape)
 
-abbrev pub placedFrom : Place → ℕ → Answer (List Element) → CapPlace
-placedFrom p n (gives es) = placedInPart p (anyHolds p (partOf n es)) (anyShape (partOf n es)) (lookUp n (total es))
-placedFrom p n (refuses k q) = placed.Refused k q
+abbrev pub placedInPart : Place → (number total : ℕ) → (holds any : Bool) → Answer Side
+placedInPart p n total holds any = andThen (lookUp n total) (λ k. cond (inRange p) (gives (sideOf holds any)) (refuses 6 0))
 
 -- whether the n-th part of the document l holds a place
-unfoldable pub capPlace : ℕ → Place → List ℕ → CapPlace
-capPlace n p l = placedFrom p n (documentOf l)
+unfoldable pub capPlace : ℕ → Place → List ℕ → Answer Side
+capPlace n p l = andThen (documentOf l) (λ es. placedInPart p n (total es) (anyHolds p (partOf n es)) (anyShape (partOf n es)))
 
--- document 01's number and place for each refusal; 0 for an answer
-abbrev pub placeNumber : CapPlace → ℕ
-placeNumber placed.Inside = 0
-placeNumber placed.Outside = 0
-placeNumber placed.NoShape = 0
-placeNumber placed.NotThere = 21
-placeNumber placed.OutOfRange = 6
-placeNumber (placed.Refused k q) = k
-
-abbrev pub refusalOffset : CapPlace → ℕ
-refusalOffset placed.Inside = 0
-refusalOffset placed.Outside = 0
-refusalOffset placed.NoShape = 0
-refusalOffset placed.NotThere = 0
-refusalOffset placed.OutOfRange = 0
-refusalOffset (placed.Refused k q) = q
+abbrev pub placeAnswer : CapPlace → Answer Side
+placeAnswer placed.Inside = gives inside
+placeAnswer placed.Outside = gives outside
+placeAnswer placed.NoShape = gives noShape
+placeAnswer placed.NotThere = refuses 21 0
+placeAnswer placed.OutOfRange = refuses 6 0
+placeAnswer (placed.Refused k q) = refuses k q

@@ -1,9 +1,10 @@
 -- The sheet of a part: "Drawing a sheet, after its packet's or document's own: 21, 7".
 use mathlib.Core.Bool.{Bool, false, cond}
 use mathlib.Core.List.{List}
-use Prim.Native.Nat.{ℕ, zero, suc}
+use Prim.Native.Nat.{ℕ}
+use lib.Dec.{eqb}
 use lib.IntN.{ℤ, pos, negsuc, natAbs, _-ℤ_}
-use Rattle.text.specs.Answers.{Answer, gives, refuses}
+use Rattle.text.specs.Answers.{Answer, gives, refuses, andThen, giving}
 use Rattle.words.specs.Duration.{isLasting}
 use Rattle.time.specs.declared.Time.{Time}
 use Rattle.time.specs.declared.Time.the-variants as time
@@ -15,12 +16,12 @@ use Rattle.sheet.specs.declared.Parts.{Parts}
 use Rattle.sheet.specs.declared.Parts.the-variants as parts
 use Rattle.sheet.specs.declared.CapFacts.{CapFacts}
 use Rattle.sheet.specs.declared.Span.{Span}
+use Rattle.sheet.specs.declared.Found.{Found}
+use Rattle.sheet.specs.declared.Found.the-variants as found
 use Rattle.sheet.specs.Reading.{spanIn}
 use Rattle.schema.specs.Classes as class
-use Rattle.document.specs.Elements.{Element, total}
+use Rattle.document.specs.Elements.{total}
 use Rattle.document.specs.Documents.{documentOf}
-use Rattle.parts.specs.declared.Lookup.{Lookup}
-use Rattle.parts.specs.declared.Lookup.the-variants.{There, Missing}
 use Rattle.parts.specs.declared.Lasts.{Lasts}
 use Rattle.parts.specs.declared.Lasts.the-variants as lasts
 use Rattle.parts.specs.declared.CapSheet.{CapSheet}
@@ -41,13 +42,17 @@ abbrev pub between : ℤ → Bool
 between (pos n) = isLasting n
 between (negsuc n) = false
 
-abbrev pub lastsFrom : (start expires : Time) → Lasts
-lastsFrom start time.Fault = lasts.Stated lasting.Unstated
-lastsFrom time.Fault (time.Instant e) = lasts.OutOfRange
-lastsFrom (time.Instant s) (time.Instant e) = cond (between (e -ℤ s)) (lasts.Stated (lasting.Seconds (natAbs (e -ℤ s)))) lasts.OutOfRange
+abbrev pub lastsFrom : (start expires : Time) → Answer Lasting
+lastsFrom start time.Fault = gives lasting.Unstated
+lastsFrom time.Fault (time.Instant e) = refuses 7 0
+lastsFrom (time.Instant s) (time.Instant e) = cond (between (e -ℤ s)) (gives (lasting.Seconds (natAbs (e -ℤ s)))) (refuses 7 0)
+
+abbrev pub lastsAnswer : Lasts → Answer Lasting
+lastsAnswer (lasts.Stated d) = gives d
+lastsAnswer lasts.OutOfRange = refuses 7 0
 
 -- alert c and part c: where the text of a class c stands, of the alert itself and of the part; l the document
-unfoldable pub lastsOf : List ℕ → (alert part : ℕ → Span) → Lasts
+unfoldable pub lastsOf : List ℕ → (alert part : ℕ → Span) → Answer Lasting
 lastsOf l alert part =
     lastsFrom
     (startOf (timeOf (spanIn l (part class.effective))) (timeOf (spanIn l (alert class.sent))))
@@ -75,36 +80,23 @@ factsOf l alert ps = record {
 }
 
 -- "A fact sheet's sender and name are shown as parts of the lent document"
-abbrev pub sheetWith : List ℕ → (alert : ℕ → Span) → Parts → CapSheet
-sheetWith l alert ps = drawn.Sheet (factsOf l alert ps) (alert class.sender) (alert class.identifier)
-
-abbrev pub sheetLasting : List ℕ → (number total : ℕ) → (alert part : ℕ → Span) → Lasts → CapSheet
-sheetLasting l number total alert part (lasts.Stated d) = sheetWith l alert (parts.OnePart (partFacts l number total part d))
-sheetLasting l number total alert part lasts.OutOfRange = drawn.OutOfRange
+abbrev pub sheetWith : List ℕ → (alert : ℕ → Span) → Parts → Found
+sheetWith l alert ps = found.Cap (factsOf l alert ps) (alert class.sender) (alert class.identifier)
 
 -- part 0 has no facts of its own
-abbrev pub sheetOfPart : List ℕ → (total : ℕ) → (alert part : ℕ → Span) → Lookup → CapSheet
-sheetOfPart l total alert part Missing = drawn.NotThere
-sheetOfPart l total alert part (There zero) = sheetWith l alert parts.NoPart
-sheetOfPart l total alert part (There (suc n)) = sheetLasting l (suc n) total alert part (lastsOf l alert part)
+abbrev pub partsOf : List ℕ → (total : ℕ) → (alert part : ℕ → Span) → (number : ℕ) → Answer Parts
+partsOf l total alert part n =
+    cond (eqb n 0) (gives parts.NoPart) (giving (λ d. parts.OnePart (partFacts l n total part d)) (lastsOf l alert part))
 
-abbrev pub sheetFrom : List ℕ → ℕ → Answer (List Element) → CapSheet
-sheetFrom l n (gives es) = sheetOfPart l (total es) (textSpan (alertOf es)) (textSpan (partOf n es)) (lookUp n (total es))
-sheetFrom l n (refuses k p) = drawn.Refused k p
+abbrev pub sheetOfPart : List ℕ → (number total : ℕ) → (alert part : ℕ → Span) → Answer Found
+sheetOfPart l n total alert part = giving (sheetWith l alert) (andThen (lookUp n total) (partsOf l total alert part))
 
 -- the sheet of the n-th part of the document l
-unfoldable pub capSheet : ℕ → List ℕ → CapSheet
-capSheet n l = sheetFrom l n (documentOf l)
+unfoldable pub capSheet : ℕ → List ℕ → Answer Found
+capSheet n l = andThen (documentOf l) (λ es. sheetOfPart l n (total es) (textSpan (alertOf es)) (textSpan (partOf n es)))
 
--- document 01's number and place for each refusal; 0 for a sheet
-abbrev pub sheetNumber : CapSheet → ℕ
-sheetNumber (drawn.Sheet f sender name) = 0
-sheetNumber drawn.NotThere = 21
-sheetNumber drawn.OutOfRange = 7
-sheetNumber (drawn.Refused k p) = k
-
-abbrev pub sheetOffset : CapSheet → ℕ
-sheetOffset (drawn.Sheet f sender name) = 0
-sheetOffset drawn.NotThere = 0
-sheetOffset drawn.OutOfRange = 0
-sheetOffset (drawn.Refused k p) = p
+abbrev pub sheetAnswer : CapSheet → Answer Found
+sheetAnswer (drawn.Sheet f sender name) = gives (found.Cap f sender name)
+sheetAnswer drawn.NotThere = refuses 21 0
+sheetAnswer drawn.OutOfRange = refuses 7 0
+sheetAnswer (drawn.Refused k p) = refuses k p

@@ -9,10 +9,10 @@ use document::Event;
 use document::Step;
 use schema::class;
 ghost use mathlib.Core.Path.{_≡_};
+ghost use Rattle.text.specs.Answers.{gives};
 ghost use Rattle.document.specs.Elements.{fold};
 ghost use Rattle.document.specs.Documents.{elementsOf};
-ghost use Rattle.parts.specs.Elements.{lookUp};
-ghost use Rattle.parts.specs.Places.{isInside, shapeHolds, placedAmong, placedInPart};
+ghost use Rattle.parts.specs.Places.{isInside, shapeHolds, sideOf, placedInPart, placeAnswer};
 ghost use Rattle.parts.specs.Gathering.{seenText, seen, viewOf};
 
 // Whether a shape said that it holds the place.
@@ -102,7 +102,7 @@ pub fn read_shapes(s: &[u8], part: usize, place: Place) -> View
 
 // Inside, outside or no shape, by what was seen.
 fn side_of(f: Shapes) -> CapPlace
-    ensures { λ r. ⌜ r ≡ placedAmong (f .inside) (f .any) ⌝ }
+    ensures { λ r. ⌜ placeAnswer r ≡ gives (sideOf (f .inside) (f .any)) ⌝ }
 {
     if f.inside {
         return CapPlace::Inside;
@@ -115,7 +115,7 @@ fn side_of(f: Shapes) -> CapPlace
 
 // The answer for a place, by the number of parts and what was seen of the part asked for.
 pub fn placed_in_part(part: usize, total: usize, f: Shapes, place: Place) -> CapPlace
-    ensures { λ r. ⌜ r ≡ placedInPart place (f .inside) (f .any) (lookUp part total) ⌝ }
+    ensures { λ r. ⌜ placeAnswer r ≡ placedInPart place part total (f .inside) (f .any) ⌝ }
 {
     let found = crate::look_up(part, total);
     let Lookup::There(number) = found else {

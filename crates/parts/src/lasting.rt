@@ -6,7 +6,7 @@ ghost use mathlib.Core.Path.{_≡_};
 ghost use Prim.Native.Nat.{_≤_};
 ghost use lib.IntN.{natAbs};
 ghost use Rattle.time.specs.declared.Time.the-variants.{Instant};
-ghost use Rattle.parts.specs.Sheets.{startOf, lastsFrom};
+ghost use Rattle.parts.specs.Sheets.{startOf, lastsFrom, lastsAnswer};
 ghost use Rattle.parts.specs.Gathering.{farthest, isNear};
 
 // The longest lasting time, in seconds.
@@ -25,7 +25,7 @@ pub fn start_of(effective: Time, sent: Time) -> Time
 // How long it is from one instant to another.
 fn lasts_between(start: i64, end: i64) -> Lasts
     requires { ⌜ (natAbs start ≤ farthest) × (natAbs end ≤ farthest) ⌝ }
-    ensures { λ r. ⌜ r ≡ lastsFrom (Instant start) (Instant end) ⌝ }
+    ensures { λ r. ⌜ lastsAnswer r ≡ lastsFrom (Instant start) (Instant end) ⌝ }
 {
     let seconds = end - start;
     if (1 <= seconds) & (seconds <= LONGEST) {
@@ -37,7 +37,7 @@ fn lasts_between(start: i64, end: i64) -> Lasts
 // How long a part lasts that starts at one time and expires at another.
 pub fn lasts_from(start: Time, expires: Time) -> Lasts
     requires { ⌜ isNear start × isNear expires ⌝ }
-    ensures { λ r. ⌜ r ≡ lastsFrom start expires ⌝ }
+    ensures { λ r. ⌜ lastsAnswer r ≡ lastsFrom start expires ⌝ }
 {
     match expires {
         Time::Fault => Lasts::Stated(Lasting::Unstated),

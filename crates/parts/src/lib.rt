@@ -4,9 +4,9 @@ use sheet::CapFacts;
 use sheet::Lasting;
 use sheet::Span;
 ghost use mathlib.Core.Path.{_≡_};
-ghost use Rattle.parts.specs.Elements.{lookUp};
-ghost use Rattle.parts.specs.Sheets.{capSheet};
-ghost use Rattle.parts.specs.Places.{capPlace};
+ghost use Rattle.parts.specs.Elements.{lookUp, lookupAnswer};
+ghost use Rattle.parts.specs.Sheets.{capSheet, sheetAnswer};
+ghost use Rattle.parts.specs.Places.{capPlace, placeAnswer};
 
 mod areas; // areas.rt: polygons and circles
 mod lasting; // lasting.rt: how long a part lasts
@@ -80,7 +80,7 @@ pub enum View {
 
 // The part asked for, by the number of parts.
 pub fn look_up(part: usize, total: usize) -> Lookup
-    ensures { λ r. ⌜ r ≡ lookUp part total ⌝ }
+    ensures { λ r. ⌜ lookupAnswer r ≡ lookUp part total ⌝ }
 {
     if total == 0 {
         if part == 0 {
@@ -96,7 +96,7 @@ pub fn look_up(part: usize, total: usize) -> Lookup
 
 // The sheet of a part of a document.
 pub fn cap_sheet(s: &[u8], part: usize) -> CapSheet
-    ensures { λ r. ⌜ r ≡ capSheet part (now (s .entry)) ⌝ }
+    ensures { λ r. ⌜ sheetAnswer r ≡ capSheet part (now (s .entry)) ⌝ }
 {
     let read = texts::read_facts(s, part);
     let outcome = read.outcome;
@@ -108,7 +108,7 @@ pub fn cap_sheet(s: &[u8], part: usize) -> CapSheet
 
 // Whether a place is inside a part of a document.
 pub fn cap_place(s: &[u8], part: usize, place: Place) -> CapPlace
-    ensures { λ r. ⌜ r ≡ capPlace part place (now (s .entry)) ⌝ }
+    ensures { λ r. ⌜ placeAnswer r ≡ capPlace part place (now (s .entry)) ⌝ }
 {
     let view = areas::read_shapes(s, part, place);
     match view {

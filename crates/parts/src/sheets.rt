@@ -16,12 +16,12 @@ use sheet::Span;
 use sheet::span_in;
 use time::Time;
 ghost use mathlib.Core.Path.{_≡_};
+ghost use Rattle.text.specs.Answers.{gives, giving};
 ghost use Prim.Native.Nat.{_≤_};
 ghost use Rattle.codes.specs.Lists.{codeOf};
 ghost use Rattle.time.specs.Time.{timeOf};
 ghost use Rattle.sheet.specs.Reading.{spanIn};
-ghost use Rattle.parts.specs.Elements.{lookUp};
-ghost use Rattle.parts.specs.Sheets.{lastsOf, partFacts, sheetWith, sheetLasting, sheetOfPart};
+ghost use Rattle.parts.specs.Sheets.{lastsOf, lastsAnswer, partFacts, sheetWith, partsOf, sheetOfPart, sheetAnswer};
 ghost use Rattle.parts.specs.Gathering.{alertSpan, partSpan};
 
 // The time that the text at a span says.
@@ -40,7 +40,7 @@ fn code_in(s: &[u8], list: usize, span: Span) -> usize
 
 // How long the part asked for lasts.
 fn lasts_of(s: &[u8], f: Facts) -> Lasts
-    ensures { λ r. ⌜ r ≡ lastsOf (now (s .entry)) (alertSpan f) (partSpan f) ⌝ }
+    ensures { λ r. ⌜ lastsAnswer r ≡ lastsOf (now (s .entry)) (alertSpan f) (partSpan f) ⌝ }
 {
     let effective = time_in(s, f.part[class::EFFECTIVE - class::URGENCY]);
     let sent = time_in(s, f.alert[class::SENT - class::IDENTIFIER]);
@@ -73,7 +73,7 @@ fn part_of(s: &[u8], part: usize, total: usize, f: Facts, lasting: Lasting) -> P
 
 // The sheet with the facts of a part, or of none.
 fn sheet_with(s: &[u8], f: Facts, parts: Parts) -> CapSheet
-    ensures { λ r. ⌜ r ≡ sheetWith (now (s .entry)) (alertSpan f) parts ⌝ }
+    ensures { λ r. ⌜ sheetAnswer r ≡ gives (sheetWith (now (s .entry)) (alertSpan f) parts) ⌝ }
 {
     let message = values::message_at(code_in(
         s,
@@ -105,8 +105,8 @@ fn sheet_with(s: &[u8], f: Facts, parts: Parts) -> CapSheet
 
 // The sheet of a part that is there, by how long it lasts.
 fn sheet_lasting(s: &[u8], part: usize, total: usize, f: Facts) -> CapSheet
-    requires { ⌜ (part ≤ total) × (total ≤ 255) ⌝ }
-    ensures { λ r. ⌜ r ≡ sheetLasting (now (s .entry)) part total (alertSpan f) (partSpan f) (lastsOf (now (s .entry)) (alertSpan f) (partSpan f)) ⌝ }
+    requires { ⌜ (1 ≤ part) × (part ≤ total) × (total ≤ 255) ⌝ }
+    ensures { λ r. ⌜ sheetAnswer r ≡ giving (sheetWith (now (s .entry)) (alertSpan f)) (partsOf (now (s .entry)) total (alertSpan f) (partSpan f) part) ⌝ }
 {
     let lasts = lasts_of(s, f);
     let Lasts::Stated(lasting) = lasts else {
@@ -118,7 +118,7 @@ fn sheet_lasting(s: &[u8], part: usize, total: usize, f: Facts) -> CapSheet
 // The sheet of the part asked for.
 pub fn sheet_of_part(s: &[u8], part: usize, total: usize, f: Facts) -> CapSheet
     requires { ⌜ total ≤ 255 ⌝ }
-    ensures { λ r. ⌜ r ≡ sheetOfPart (now (s .entry)) total (alertSpan f) (partSpan f) (lookUp part total) ⌝ }
+    ensures { λ r. ⌜ sheetAnswer r ≡ sheetOfPart (now (s .entry)) part total (alertSpan f) (partSpan f) ⌝ }
 {
     let found = crate::look_up(part, total);
     let Lookup::There(number) = found else {

@@ -6,13 +6,12 @@ use Prim.Native.Nat.{ℕ, zero, suc, _+_, _-_, _*_, _≤_, _<_}
 use native.Mathlib.Omega.{arith}
 use lib.ListN.{length, length-append}
 use Rattle.text.specs.Logic.{by-test}
+use Rattle.text.specs.Answers.{Answer, gives, refuses}
 use Rattle.buffer.specs.Cursor.{cursor, putText, Put}
 use Rattle.buffer.proofs.Chain.{put-append}
-use Rattle.sheet.specs.Sheet.{cap}
-use Rattle.sheet.specs.Reading.{spanIn}
+use Rattle.sheet.specs.declared.Found.{Found}
+use Rattle.sheet.specs.Reading.{sheetIn}
 use Rattle.sheet.proofs.Lengths.{sentence-le}
-use Rattle.parts.specs.declared.CapSheet.{CapSheet}
-use Rattle.parts.specs.declared.CapSheet.the-variants as drawn
 use Rattle.parts.specs.Sheets.{capSheet}
 use Rattle.parts.proofs.Ranges.{drawn-in-range}
 use Rattle.sheet.specs.Sentence.{longest}
@@ -25,20 +24,16 @@ use Rattle.report.proofs.Refusing.{refusal-le}
 line-le : (l : List ℕ) (n : ℕ) → length (lineAt l n) ≤ longest
 line-le l n = go (capSheet n l) refl
   where
-    go : (x : CapSheet) → capSheet n l ≡ x → length (lineThen l [] x) ≤ longest
-    go (drawn.Sheet f a b) e = rw append-nil (sentence-le (cap f (spanIn l a) (spanIn l b)) (drawn-in-range n l f a b e))
-    go drawn.NotThere e = omega (arith, refusal-le 21 0)
-    go drawn.OutOfRange e = omega (arith, refusal-le 7 0)
-    go (drawn.Refused k p) e = omega (arith, refusal-le k p)
+    go : (r : Answer Found) → capSheet n l ≡ r → length (lineThen l [] r) ≤ longest
+    go (gives x) e = rw append-nil (sentence-le (sheetIn l x) (drawn-in-range l n x e))
+    go (refuses k p) e = omega (arith, refusal-le k p)
 
 -- ---- a line in front of the next ones
 
 -- what comes after a line is the next ones or nothing
-line-then : (l rest : List ℕ) (x : CapSheet) → lineThen l rest x ≡ lineThen l [] x ++ cond (isSentence x) rest []
-line-then l rest (drawn.Sheet f a b) = rw append-nil
-line-then l rest drawn.NotThere = sym (append-nil _)
-line-then l rest drawn.OutOfRange = sym (append-nil _)
-line-then l rest (drawn.Refused k p) = sym (append-nil _)
+line-then : (l rest : List ℕ) (r : Answer Found) → lineThen l rest r ≡ lineThen l [] r ++ cond (isSentence r) rest []
+line-then l rest (gives x) = rw append-nil
+line-then l rest (refuses k p) = sym (append-nil _)
 
 module _ (l : List ℕ) (k n : ℕ) where
   -- after a sentence the next ones

@@ -7,15 +7,12 @@ use Prim.Native.Char.{code}
 use lib.Dec.{ltb}
 use lib.ListN.{length}
 use Rattle.text.specs.Ascii.{ascii}
+use Rattle.text.specs.Answers.{Answer, gives, refuses}
 use Rattle.buffer.specs.Writing.{written}
-use Rattle.sheet.specs.Sheet.{cap}
+use Rattle.sheet.specs.declared.Found.{Found}
 use Rattle.sheet.specs.Sentence.{sentence}
-use Rattle.sheet.specs.Reading.{spanIn}
-use Rattle.document.specs.declared.Check.{Check}
-use Rattle.document.specs.declared.Check.the-variants as check
+use Rattle.sheet.specs.Reading.{sheetIn}
 use Rattle.document.specs.Documents.{checkOf}
-use Rattle.parts.specs.declared.CapSheet.{CapSheet}
-use Rattle.parts.specs.declared.CapSheet.the-variants as drawn
 use Rattle.parts.specs.Sheets.{capSheet}
 use Rattle.report.specs.declared.Report.{Report}
 use Rattle.report.specs.declared.Report.the-variants as report
@@ -33,11 +30,9 @@ unfoldable pub refusalLine : (number offset : ℕ) → List ℕ
 refusalLine n p = ascii "refused " ++ (inDigits n ++ (ascii " at " ++ (inDigits p ++ ascii "\n")))
 
 -- the line of a part, in front of the next parts' lines; a refusal is the last line
-abbrev pub lineThen : List ℕ → List ℕ → CapSheet → List ℕ
-lineThen l rest (drawn.Sheet f sender name) = sentence (cap f (spanIn l sender) (spanIn l name)) ++ rest
-lineThen l rest drawn.NotThere = refusalLine 21 0
-lineThen l rest drawn.OutOfRange = refusalLine 7 0
-lineThen l rest (drawn.Refused n p) = refusalLine n p
+abbrev pub lineThen : List ℕ → List ℕ → Answer Found → List ℕ
+lineThen l rest (gives x) = sentence (sheetIn l x) ++ rest
+lineThen l rest (refuses n p) = refusalLine n p
 
 -- the lines of k parts from the n-th on
 unfoldable pub linesFrom : List ℕ → (k n : ℕ) → List ℕ
@@ -45,10 +40,10 @@ linesFrom l zero n = []
 linesFrom l (suc k) n = lineThen l (linesFrom l k (n + 1)) (capSheet n l)
 
 -- "each part's sentence (part 0's if none)"
-abbrev pub linesOf : List ℕ → Check → List ℕ
-linesOf l (check.Accepted zero) = linesFrom l 1 0
-linesOf l (check.Accepted (suc k)) = linesFrom l (suc k) 1
-linesOf l (check.Refused n p) = refusalLine n p
+abbrev pub linesOf : List ℕ → Answer ℕ → List ℕ
+linesOf l (gives zero) = linesFrom l 1 0
+linesOf l (gives (suc k)) = linesFrom l (suc k) 1
+linesOf l (refuses n p) = refusalLine n p
 
 -- all that the program writes about the document l
 unfoldable pub reportOf : List ℕ → List ℕ
@@ -59,8 +54,12 @@ abbrev pub reportRoom : ℕ
 reportRoom = 12_000
 
 -- the answer to writing a report into the buffer d, and what the buffer then holds
-unfoldable pub reported : List ℕ → List ℕ → Report
-reported d l = cond (ltb (length d) reportRoom) report.NoRoom (report.End (length (reportOf l)))
+unfoldable pub reported : List ℕ → List ℕ → Answer ℕ
+reported d l = cond (ltb (length d) reportRoom) (refuses 13 0) (gives (length (reportOf l)))
 
 unfoldable pub reportedIn : List ℕ → List ℕ → List ℕ
 reportedIn d l = cond (ltb (length d) reportRoom) d (written d 0 (reportOf l))
+
+abbrev pub reportAnswer : Report → Answer ℕ
+reportAnswer (report.End e) = gives e
+reportAnswer report.NoRoom = refuses 13 0

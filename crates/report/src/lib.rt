@@ -1,7 +1,7 @@
 // What the program writes about a document: each part's sentence, or the refusal that stops it.
 use document::Check;
 ghost use mathlib.Core.Path.{_≡_};
-ghost use Rattle.report.specs.Lines.{reported, reportedIn};
+ghost use Rattle.report.specs.Lines.{reported, reportedIn, reportAnswer};
 
 mod digits; // digits.rt: numbers in digits, and the line of a refusal
 mod lines; // lines.rt: the lines of parts
@@ -17,7 +17,7 @@ pub enum Report {
 
 // Writes all that the program says about a document over the front of a buffer.
 pub fn write_report(buffer: &mut [u8], s: &[u8]) -> Report
-    ensures { λ r. ⌜ (r ≡ reported (now (buffer .entry)) (now (s .entry))) × (now (buffer .exit) ≡ reportedIn (now (buffer .entry)) (now (s .entry))) ⌝ }
+    ensures { λ r. ⌜ (reportAnswer r ≡ reported (now (buffer .entry)) (now (s .entry))) × (now (buffer .exit) ≡ reportedIn (now (buffer .entry)) (now (s .entry))) ⌝ }
 {
     if buffer.len() < ROOM {
         return Report::NoRoom;

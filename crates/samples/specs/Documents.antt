@@ -5,7 +5,7 @@ use Prim.Native.Nat.{ℕ}
 use Rattle.text.specs.Ascii.{ascii}
 use Rattle.text.specs.Bytes.{numberFrom}
 use Rattle.text.specs.Parts.{startsWith}
-use Rattle.text.specs.Answers.{gives}
+use Rattle.text.specs.Answers.{gives, refuses}
 use Rattle.xml_tags.specs.Tags as tags
 use Rattle.xml_tags.specs.Attributes as attribute
 use Rattle.xml.specs.Comments as comments
@@ -18,7 +18,6 @@ use Rattle.time.specs.Time.{hasForm, stampOf, isStamp, localSeconds, epoch, off
 use Rattle.sheet.specs.Sheet.{allNameBytes}
 use Rattle.codes.specs.Lists.{lists, codeOf}
 use Rattle.rules.specs.Texts.{nameRule, codeRule, timeRule, textRule}
-use Rattle.document.specs.declared.Check.the-variants.{Accepted, Refused}
 use Rattle.document.specs.Elements.{opened, text, closed, starts}
 use Rattle.document.specs.Tags.{openStep, emptyStep, boundStep, localName, isAlert, startStep, closeStep, endedStep, tagStep}
 use Rattle.document.specs.Constructs.{constructStep, stepOf}
@@ -69,46 +68,46 @@ pub record Samples : Type 0 where
       ∷ text class.certainty 320 (ascii "Observed") ∷ closed class.info ∷ closed class.alert ∷ [])
   -- one part and none; a declaration before, the last one under a prefix
   pub sample-parts :
-      (checkOf (start ++ head ++ info ++ end) ≡ Accepted 1)
-      × (checkOf (ascii "<?xml version=\"1.0\"?>" ++ start ++ head ++ end) ≡ Accepted 0)
-      × (checkOf prefixed ≡ Accepted 0)
+      (checkOf (start ++ head ++ info ++ end) ≡ gives 1)
+      × (checkOf (ascii "<?xml version=\"1.0\"?>" ++ start ++ head ++ end) ≡ gives 0)
+      × (checkOf prefixed ≡ gives 0)
   -- the first tag: no alert, without and with the attribute; an alert without it, with another name space, with a prefix that it lacks
   pub sample-first :
-      (checkOf (ascii "<html>") ≡ Refused 16 0)
-      × (checkOf (ascii "<html xmlns=\"urn:oasis:names:tc:emergency:cap:1.2\">") ≡ Refused 15 0)
-      × (checkOf (ascii "<alert>") ≡ Refused 15 0)
-      × (checkOf (ascii "<alert xmlns=\"urn:oasis:names:tc:emergency:cap:1.1\">") ≡ Refused 15 0)
-      × (checkOf (ascii "<alert xmlns:c=\"urn:oasis:names:tc:emergency:cap:1.2\">") ≡ Refused 16 0)
+      (checkOf (ascii "<html>") ≡ refuses 16 0)
+      × (checkOf (ascii "<html xmlns=\"urn:oasis:names:tc:emergency:cap:1.2\">") ≡ refuses 15 0)
+      × (checkOf (ascii "<alert>") ≡ refuses 15 0)
+      × (checkOf (ascii "<alert xmlns=\"urn:oasis:names:tc:emergency:cap:1.1\">") ≡ refuses 15 0)
+      × (checkOf (ascii "<alert xmlns:c=\"urn:oasis:names:tc:emergency:cap:1.2\">") ≡ refuses 16 0)
   -- input that stops short: nothing, between elements, in a text, in a tag, in a comment
   pub sample-short :
-      (checkOf (ascii "") ≡ Refused 15 0)
-      × (checkOf (start) ≡ Refused 15 52)
-      × (checkOf (start ++ ascii "<identifier>A17") ≡ Refused 15 67)
-      × (checkOf (start ++ ascii "<identifier") ≡ Refused 15 63)
-      × (checkOf (start ++ ascii "<!-- c --") ≡ Refused 15 61)
+      (checkOf (ascii "") ≡ refuses 15 0)
+      × (checkOf (start) ≡ refuses 15 52)
+      × (checkOf (start ++ ascii "<identifier>A17") ≡ refuses 15 67)
+      × (checkOf (start ++ ascii "<identifier") ≡ refuses 15 63)
+      × (checkOf (start ++ ascii "<!-- c --") ≡ refuses 15 61)
   -- something missing at the end tag, at the next element, in an empty container; an element in a leaf; no prefix where the alert has one
   pub sample-order :
-      (checkOf (start ++ front ++ end) ≡ Refused 16 147)
-      × (checkOf (start ++ ascii "<identifier>A17</identifier><sent>") ≡ Refused 16 80)
-      × (checkOf (start ++ head ++ ascii "<info/>") ≡ Refused 16 215)
-      × (checkOf (start ++ ascii "<identifier>A17<b/></identifier>") ≡ Refused 16 67)
-      × (checkOf (ascii "<c:alert xmlns:c=\"urn:oasis:names:tc:emergency:cap:1.2\"><identifier>") ≡ Refused 16 56)
+      (checkOf (start ++ front ++ end) ≡ refuses 16 147)
+      × (checkOf (start ++ ascii "<identifier>A17</identifier><sent>") ≡ refuses 16 80)
+      × (checkOf (start ++ head ++ ascii "<info/>") ≡ refuses 16 215)
+      × (checkOf (start ++ ascii "<identifier>A17<b/></identifier>") ≡ refuses 16 67)
+      × (checkOf (ascii "<c:alert xmlns:c=\"urn:oasis:names:tc:emergency:cap:1.2\"><identifier>") ≡ refuses 16 56)
   -- a wrong end tag; one without the prefix; a comment in a leaf; a comment with "--"; a reference; a stray byte; CDATA; a tag after the alert
   pub sample-form :
-      (checkOf (start ++ ascii "<identifier>A17</sender>") ≡ Refused 15 67)
-      × (checkOf (ascii "<c:alert xmlns:c=\"urn:oasis:names:tc:emergency:cap:1.2\"><c:identifier>A17</identifier>") ≡ Refused 15 73)
-      × (checkOf (start ++ ascii "<identifier>A17<!-- c --></identifier>") ≡ Refused 15 67)
-      × (checkOf (start ++ ascii "<!-- a -- b -->") ≡ Refused 15 52)
-      × (checkOf (start ++ ascii "<identifier>A &copy; B</identifier>") ≡ Refused 15 66)
-      × (checkOf (start ++ ascii "x") ≡ Refused 15 52)
-      × (checkOf (start ++ ascii "<![CDATA[x]]>") ≡ Refused 15 52)
-      × (checkOf (start ++ head ++ end ++ ascii "<x>") ≡ Refused 15 223)
+      (checkOf (start ++ ascii "<identifier>A17</sender>") ≡ refuses 15 67)
+      × (checkOf (ascii "<c:alert xmlns:c=\"urn:oasis:names:tc:emergency:cap:1.2\"><c:identifier>A17</identifier>") ≡ refuses 15 73)
+      × (checkOf (start ++ ascii "<identifier>A17<!-- c --></identifier>") ≡ refuses 15 67)
+      × (checkOf (start ++ ascii "<!-- a -- b -->") ≡ refuses 15 52)
+      × (checkOf (start ++ ascii "<identifier>A &copy; B</identifier>") ≡ refuses 15 66)
+      × (checkOf (start ++ ascii "x") ≡ refuses 15 52)
+      × (checkOf (start ++ ascii "<![CDATA[x]]>") ≡ refuses 15 52)
+      × (checkOf (start ++ head ++ end ++ ascii "<x>") ≡ refuses 15 223)
   -- a text is tested up to the next "<", at the byte after its start tag: no code; cut by a comment; empty before a comment; an empty tag
   pub sample-texts :
-      (checkOf (start ++ front ++ ascii "<status>Bad<") ≡ Refused 17 155)
-      × (checkOf (start ++ front ++ ascii "<status>Act<!-- c -->ual</status>") ≡ Refused 17 155)
-      × (checkOf (start ++ ascii "<identifier><!-- c -->A17</identifier>") ≡ Refused 19 64)
-      × (checkOf (start ++ ascii "<identifier/>") ≡ Refused 19 65)
+      (checkOf (start ++ front ++ ascii "<status>Bad<") ≡ refuses 17 155)
+      × (checkOf (start ++ front ++ ascii "<status>Act<!-- c -->ual</status>") ≡ refuses 17 155)
+      × (checkOf (start ++ ascii "<identifier><!-- c -->A17</identifier>") ≡ refuses 19 64)
+      × (checkOf (start ++ ascii "<identifier/>") ≡ refuses 19 65)
 
 pub samples : Samples
 unfolding documentOf firstStep run stepOf constructStep tagStep endedStep startStep isAlert localName boundStep openStep emptyStep closeStep textRule

@@ -7,6 +7,7 @@ use Rattle.text.specs.Ascii.{ascii}
 use Rattle.text.specs.Bytes.{numberFrom}
 use Rattle.text.specs.Tokens.{onToken, longer, tokens}
 use Rattle.text.specs.Parts.{startsWith}
+use Rattle.text.specs.Answers.{Answer, gives, refuses, giving}
 use Rattle.xml_tags.specs.Tags as tags
 use Rattle.xml_tags.specs.Attributes as attribute
 use Rattle.xml.specs.Comments as comments
@@ -26,9 +27,11 @@ use Rattle.codes.specs.declared.Severity.the-variants as severity
 use Rattle.codes.specs.declared.Certainty.the-variants as certainty
 use Rattle.sheet.specs.declared.Lasting.the-variants.{Seconds}
 use Rattle.sheet.specs.declared.Parts.the-variants.{OnePart}
-use Rattle.sheet.specs.Sheet.{cap, allNameBytes}
+use Rattle.sheet.specs.Sheet.{allNameBytes}
 use Rattle.sheet.specs.Sentence.{sentence, sentenceIn, capText, partsText, partText, lastingText}
-use Rattle.sheet.specs.Reading.{spanIn}
+use Rattle.sheet.specs.declared.Found.{Found}
+use Rattle.sheet.specs.declared.Found.the-variants.{Cap}
+use Rattle.sheet.specs.Reading.{sheetIn}
 use Rattle.coordinates.specs.declared.Place.{Place}
 use Rattle.coordinates.specs.Decimal.{leads, places, fraction, decimalLength, isDecimal, scaled, radiusOf}
 use Rattle.coordinates.specs.Place.{coordinateAt, degreesOf, pairOf}
@@ -41,12 +44,9 @@ use Rattle.document.specs.Elements.{starts, fold}
 use Rattle.document.specs.Tags.{openStep, emptyStep, boundStep, localName, isAlert, startStep, closeStep, endedStep, tagStep}
 use Rattle.document.specs.Constructs.{constructStep, stepOf}
 use Rattle.document.specs.Documents.{firstStep, run, documentOf}
-use Rattle.parts.specs.declared.CapSheet.{CapSheet}
-use Rattle.parts.specs.declared.CapSheet.the-variants as drawn
-use Rattle.parts.specs.declared.CapPlace.the-variants as placed
 use Rattle.parts.specs.Elements.{within, lookUp}
 use Rattle.parts.specs.Sheets.{lastsOf, capSheet}
-use Rattle.parts.specs.Places.{anyText, capPlace}
+use Rattle.parts.specs.Places.{inside, outside, noShape, anyText, capPlace}
 
 -- ---- documents
 
@@ -66,23 +66,23 @@ info times areas =
 abbrev pub end : List ℕ
 end = ascii "</alert>"
 
--- one part, from when it was sent to an hour and a quarter later on a clock that is an hour ahead
-abbrev pub alert : List ℕ
-alert =
-    head (ascii "A17") (ascii "2026-03-01T10:00:00-00:00") (ascii "Alert")
-    ++ info (ascii "<expires>2026-03-01T11:15:00+01:00</expires>") [] ++ end
+-- one part, from when it was sent
+abbrev pub until : (expires : List ℕ) → List ℕ
+until expires =
+    head (ascii "A17") (ascii "2026-03-01T10:00:00-00:00") (ascii "Alert") ++ info (ascii "<expires>" ++ expires ++ ascii "</expires>") [] ++ end
 
--- the same from the time that it is effective, which is not that of sending
+-- to an hour and a quarter later on a clock that is an hour ahead; to the same instant
+abbrev pub alert : List ℕ
+alert = until (ascii "2026-03-01T11:15:00+01:00")
+
+abbrev pub expired : List ℕ
+expired = until (ascii "2026-03-01T11:00:00+01:00")
+
+-- from the time that it is effective, which is not that of sending
 abbrev pub delayed : List ℕ
 delayed =
     head (ascii "A17") (ascii "2026-02-28T08:30:00-00:00") (ascii "Alert")
     ++ info (ascii "<effective>2026-03-01T10:00:00-00:00</effective><expires>2026-03-01T11:15:00+01:00</expires>") [] ++ end
-
--- it expires when it was sent
-abbrev pub expired : List ℕ
-expired =
-    head (ascii "A17") (ascii "2026-03-01T10:00:00-00:00") (ascii "Alert")
-    ++ info (ascii "<expires>2026-03-01T11:00:00+01:00</expires>") [] ++ end
 
 -- no part
 abbrev pub cancel : List ℕ
@@ -96,10 +96,10 @@ double =
     (ascii "<area><areaDesc/><polygon>0,0 0,10 10,10 10,0 0,0</polygon><circle>20,20 1</circle></area>")
     ++ info [] [] ++ end
 
--- the sheet of alert's part, with the offsets of sender and name
-abbrev pub kiln : CapSheet
-kiln =
-    drawn.Sheet
+-- the sheet of such a part, with the offsets of sender and name
+abbrev pub kiln : (seconds : ℕ) → Found
+kiln seconds =
+    Cap
     (record {
       message = message.Alert;
       status = status.Actual;
@@ -111,18 +111,15 @@ kiln =
             urgency = urgency.Immediate;
             severity = severity.Extreme;
             certainty = certainty.Observed;
-            lasting = Seconds 900;
+            lasting = Seconds seconds;
           });
     })
     (record { start = 88; len = 12 })
     (record { start = 64; len = 3 })
 
--- what a sheet's sentence says; nothing for none
-abbrev pub saidOf : List ℕ → CapSheet → List ℕ
-saidOf l (drawn.Sheet f sender name) = sentence (cap f (spanIn l sender) (spanIn l name))
-saidOf l drawn.NotThere = []
-saidOf l drawn.OutOfRange = []
-saidOf l (drawn.Refused k p) = []
+-- the sentence of a part's sheet
+abbrev pub saidOf : List ℕ → ℕ → Answer (List ℕ)
+saidOf l n = giving (λ x. sentence (sheetIn l x)) (capSheet n l)
 
 abbrev pub degrees : ℕ → ℕ → Place
 degrees y x = record { lat = pos (y * 10_000_000); lon = pos (x * 10_000_000) }
@@ -132,36 +129,40 @@ degrees y x = record { lat = pos (y * 10_000_000); lon = pos (x * 10_000_000) }
 pub record Samples : Type 0 where
   -- the first sample of 01: fifteen minutes, from when it was sent or from when it is effective
   pub sample-alert :
-      (capSheet 1 alert ≡ kiln)
-      × (capSheet 1 delayed ≡ kiln)
-      × (saidOf alert kiln ≡ ascii "cap alert, actual, public, from kiln.example, name A17, part one of one, immediate, extreme, observed, lasts fifteen minutes.\n")
+      (capSheet 1 alert ≡ gives (kiln 900))
+      × (capSheet 1 delayed ≡ gives (kiln 900))
+      × (saidOf alert 1 ≡ gives (ascii "cap alert, actual, public, from kiln.example, name A17, part one of one, immediate, extreme, observed, lasts fifteen minutes.\n"))
+  -- "31,536,000 s: three hundred sixty five days; 31,536,001: refusal 7"
+  pub sample-year :
+      (capSheet 1 (until (ascii "2027-03-01T10:00:00-00:00")) ≡ gives (kiln 31_536_000))
+      × (capSheet 1 (until (ascii "2027-03-01T10:00:01-00:00")) ≡ refuses 7 0)
   -- the second: no parts
-  pub sample-cancel : saidOf cancel (capSheet 0 cancel) ≡ ascii "cap cancel, actual, public, from kiln.example, name A18, no parts.\n"
+  pub sample-cancel : saidOf cancel 0 ≡ gives (ascii "cap cancel, actual, public, from kiln.example, name A18, no parts.\n")
   -- the parts of two, the second without a time
   pub sample-double :
-      (saidOf double (capSheet 1 double) ≡ ascii "cap update, actual, public, from kiln.example, name A19, part one of two, immediate, extreme, observed, lasts one day.\n")
-      × (saidOf double (capSheet 2 double) ≡ ascii "cap update, actual, public, from kiln.example, name A19, part two of two, immediate, extreme, observed, lasts no stated time.\n")
+      (saidOf double 1 ≡ gives (ascii "cap update, actual, public, from kiln.example, name A19, part one of two, immediate, extreme, observed, lasts one day.\n"))
+      × (saidOf double 2 ≡ gives (ascii "cap update, actual, public, from kiln.example, name A19, part two of two, immediate, extreme, observed, lasts no stated time.\n"))
   -- a part that isn't there: after the last, 0 where there are parts, 1 where there are none; a part that lasts no second; no document
   pub sample-refusals :
-      (capSheet 2 alert ≡ drawn.NotThere)
-      × (capSheet 0 alert ≡ drawn.NotThere)
-      × (capSheet 1 cancel ≡ drawn.NotThere)
-      × (capSheet 2 expired ≡ drawn.NotThere)
-      × (capSheet 1 expired ≡ drawn.OutOfRange)
-      × (capSheet 1 (ascii "<html>") ≡ drawn.Refused 16 0)
+      (capSheet 2 alert ≡ refuses 21 0)
+      × (capSheet 0 alert ≡ refuses 21 0)
+      × (capSheet 1 cancel ≡ refuses 21 0)
+      × (capSheet 2 expired ≡ refuses 21 0)
+      × (capSheet 1 expired ≡ refuses 7 0)
+      × (capSheet 1 (ascii "<html>") ≡ refuses 16 0)
   -- in the polygon, at the circle's centre, in neither; no shape in a part, none in part 0; no such place, no such part; no document
   pub sample-places :
-      (capPlace 1 (degrees 5 5) double ≡ placed.Inside)
-      × (capPlace 1 (degrees 20 20) double ≡ placed.Inside)
-      × (capPlace 1 (degrees 15 15) double ≡ placed.Outside)
-      × (capPlace 2 (degrees 5 5) double ≡ placed.NoShape)
-      × (capPlace 0 (degrees 5 5) cancel ≡ placed.NoShape)
-      × (capPlace 1 (degrees 91 5) double ≡ placed.OutOfRange)
-      × (capPlace 3 (degrees 91 5) double ≡ placed.NotThere)
-      × (capPlace 1 (degrees 91 5) (ascii "<html>") ≡ placed.Refused 16 0)
+      (capPlace 1 (degrees 5 5) double ≡ gives inside)
+      × (capPlace 1 (degrees 20 20) double ≡ gives inside)
+      × (capPlace 1 (degrees 15 15) double ≡ gives outside)
+      × (capPlace 2 (degrees 5 5) double ≡ gives noShape)
+      × (capPlace 0 (degrees 5 5) cancel ≡ gives noShape)
+      × (capPlace 1 (degrees 91 5) double ≡ refuses 6 0)
+      × (capPlace 3 (degrees 91 5) double ≡ refuses 21 0)
+      × (capPlace 1 (degrees 91 5) (ascii "<html>") ≡ refuses 16 0)
 
 pub samples : Samples
-unfolding capSheet lastsOf lookUp within fold starts documentOf firstStep run stepOf constructStep tagStep endedStep startStep isAlert localName
+unfolding capSheet sheetIn lastsOf lookUp within fold starts documentOf firstStep run stepOf constructStep tagStep endedStep startStep isAlert localName
     boundStep openStep emptyStep closeStep textRule timeRule codeRule nameRule codeOf lists smallText allNameBytes timeOf stampTime instantOf offset
     epoch
     localSeconds isStamp stampOf hasForm daysOfYears daysOfMonths nextOf containerOf class.classOf class.find class.names opening.prolog
@@ -173,6 +174,7 @@ unfolding capSheet lastsOf lookUp within fold starts documentOf firstStep run st
     longer
 samples = record {
   sample-alert = (refl, refl, refl);
+  sample-year = (refl, refl);
   sample-cancel = refl;
   sample-double = (refl, refl);
   sample-refusals = (refl, refl, refl, refl, refl, refl);

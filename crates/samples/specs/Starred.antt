@@ -1,13 +1,13 @@
 -- The bench samples that document 01 marks with *, in a single statement over the definitions that the contracts name.
 use mathlib.Core.Path.{_≡_, refl}
-use mathlib.Core.Bool.{true, false}
 use lib.IntN.{ℤ, pos, negℤ, _-ℤ_}
 use Rattle.text.specs.Ascii.{ascii}
+use Rattle.text.specs.Answers.{gives, refuses}
 use Rattle.time.specs.declared.Time.the-variants.{Instant}
 use Rattle.time.specs.Time.{timeOf}
 use Rattle.time.specs.Samples.{sample-2002, sample-first, sample-zones}
 use Rattle.words.specs.Words.{words}
-use Rattle.words.specs.Duration.{duration, isLasting}
+use Rattle.words.specs.Duration.{duration}
 use Rattle.words.specs.Samples.{sample-numbers, sample-year, sample-quarter}
 use Rattle.coordinates.specs.declared.Inclusion.the-variants.{Inside, Outside}
 use mathlib.Core.List.{[], _∷_}
@@ -16,6 +16,8 @@ use Rattle.events.specs.Table.{tableOutcome}
 use Rattle.events.specs.Samples.{numbered, stored, sample-stored}
 use Rattle.circle.specs.Circle.{unitsOf, aroundHolds}
 use Rattle.circle.specs.Samples.{north, sample-circle}
+use Rattle.parts.specs.Sheets.{capSheet}
+use Rattle.samples.specs.Parts.{until, kiln, samples}
 
 -- two instants of "10:00:00-00:00 to 11:15:00+01:00, same day"
 abbrev pub ten : ℤ
@@ -36,8 +38,8 @@ pub record Starred : Type 0 where
   pub lasts : duration 900 ≡ ascii "fifteen minutes"
   -- 31,536,000 s: three hundred sixty five days; 31,536,001: refusal 7
   pub year : duration 31_536_000 ≡ ascii "three hundred sixty five days"
-  pub longest : isLasting 31_536_000 ≡ true
-  pub longer : isLasting 31_536_001 ≡ false
+  pub part-longest : capSheet 1 (until (ascii "2027-03-01T10:00:00-00:00")) ≡ gives (kiln 31_536_000)
+  pub part-longer : capSheet 1 (until (ascii "2027-03-01T10:00:01-00:00")) ≡ refuses 7 0
   -- 1,015: one thousand fifteen; 0: zero
   pub thousand : words 1_015 ≡ ascii "one thousand fifteen"
   pub none : words 0 ≡ ascii "zero"
@@ -58,8 +60,8 @@ starred = record {
   apart = refl;
   lasts = sample-quarter;
   year = sample-year .0;
-  longest = sample-year .1;
-  longer = sample-year .2;
+  part-longest = samples .sample-year .0;
+  part-longer = samples .sample-year .1;
   thousand = sample-numbers .0;
   none = sample-numbers .1;
   equal = sample-stored .0;

@@ -1,7 +1,8 @@
 -- By the answer to checking the document: the line of its refusal, or the lines of its parts.
-use mathlib.Core.Path.{sym, _∙_}
+use mathlib.Core.Path.{sym, ap, _∙_}
 use native.Mathlib.Omega.{arith}
 use borrow.Author.Needs.{needs}
+use Rattle.document.specs.Documents.{checkAnswer}
 use Rattle.report.proofs.Reports.{check-limit, report-refused, report-none, report-some, no-room, has-room}
 use Rattle.report.proofs.write_report.Statement.{statement}
 use Rattle.report.proofs.write_report.Tie as tie
@@ -10,7 +11,7 @@ returns-2 : tie.Need-returns-2
 returns-2 c =
     let d = c .before .before .before .before .before .before .before .before in
     has-room _ _ (d .before .if1 .left)
-    (report-none _ _ (sym (d .check-document .ensures) ∙ c .before .before .before .before .before .before .checked2 .given .1)
+    (report-none _ _ (sym (d .check-document .ensures) ∙ ap checkAnswer (c .before .before .before .before .before .before .checked2 .given .1))
     (c .before .before .before .before .if2 .taken))
     (c .before .before .put-lines .ensures)
 
@@ -18,21 +19,21 @@ put-lines-requires-2 : tie.Need-put-lines-requires-2
 put-lines-requires-2 c κs = (
   omega arith,
   check-limit _ _ (sym (c .before .before .before .before .before .check-document .ensures)
-      ∙ c .before .before .before .checked2 .given .1),
+      ∙ ap checkAnswer (c .before .before .before .checked2 .given .1)),
 )
 
 returns-3 : tie.Need-returns-3
 returns-3 c =
     let d = c .before .before .before .before .before .before .before in
     has-room _ _ (d .before .if1 .left)
-    (report-refused _ _ _ (sym (d .check-document .ensures) ∙ c .before .before .before .before .before .checked .given .1))
+    (report-refused _ _ _ (sym (d .check-document .ensures) ∙ ap checkAnswer (c .before .before .before .before .before .checked .given .1)))
     (c .before .before .put-refusal .ensures)
 
 returns-4 : tie.Need-returns-4
 returns-4 c =
     let d = c .before .before .before .before .before .before .before .before in
     has-room _ _ (d .before .if1 .left)
-    (report-some _ _ (sym (d .check-document .ensures) ∙ c .before .before .before .before .before .before .checked2 .given .1) (omega arith))
+    (report-some _ _ (sym (d .check-document .ensures) ∙ ap checkAnswer (c .before .before .before .before .before .before .checked2 .given .1)) (omega arith))
     (c .before .before .put-lines2 .ensures)
 
 pub write-report-spec : {M : Type 1} → statement M

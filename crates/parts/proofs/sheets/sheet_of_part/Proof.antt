@@ -1,9 +1,10 @@
 -- The part is there, and it is part 0 or not.
-use mathlib.Core.Path.{sym, _∙_}
+use mathlib.Core.Path.{sym, ap, _∙_}
 use borrow.Author.Needs.{needs}
+use Rattle.parts.specs.Elements.{lookupAnswer}
 use Rattle.parts.specs.Gathering.{alertSpan, partSpan}
-use Rattle.parts.proofs.Lookups.{some-within}
-use Rattle.parts.proofs.Meant.{some-drawn}
+use Rattle.parts.proofs.Lookups.{there-within}
+use Rattle.parts.proofs.Meant.{there-drawn}
 use Rattle.parts.proofs.sheets.sheet_of_part.Statement.{statement}
 use Rattle.parts.proofs.sheets.sheet_of_part.Tie as tie
 
@@ -16,18 +17,15 @@ returns-2 c =
     (c .sheet-with .ensures)
 
 sheet-lasting-requires : tie.Need-sheet-lasting-requires
-sheet-lasting-requires c κs = (
-  some-within _ _ _ (sym (c .before .before .before .before .look-up .ensures) ∙ c .before .before .found .given .1) (c .if1 .left),
-  c .before
-      .before .before .before .before .before .pre,
-)
+sheet-lasting-requires c κs =
+    let w = there-within _ _ _ (sym (c .before .before .before .before .look-up .ensures) ∙ ap lookupAnswer (c .before .before .found .given .1)) (c .if1 .left) in
+    (w .0, w .1, c .before .before .before .before .before .before .pre)
 
 returns-3 : tie.Need-returns-3
 returns-3 c =
     let a = c .before .before .before .before .before .before .before .args in
-    rw (some-drawn (a .s .now) (a .part) (a .total) _ (alertSpan (a .f)) (partSpan (a .f))
-    (sym (c .before .before .before .before .before .look-up .ensures) ∙ c .before .before .before .found .given .1) (c .before .if1 .left))
-    (c .sheet-lasting .ensures)
+    c .sheet-lasting .ensures ∙ there-drawn (a .s .now) (a .part) (a .total) _ (alertSpan (a .f)) (partSpan (a .f))
+    (sym (c .before .before .before .before .before .look-up .ensures) ∙ ap lookupAnswer (c .before .before .before .found .given .1))
 
 pub sheet-of-part-spec : {M : Type 1} → statement M
 sheet-of-part-spec =
