@@ -2,3 +2,5 @@ pub mod Table
 pub mod Naming
 pub mod Hash
 pub mod Alerts
+pub mod Matching
+pub mod States

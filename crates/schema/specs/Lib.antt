@@ -1,3 +1,4 @@
 pub mod Classes
 pub mod Sequences
+pub mod Matching
 pub mod Tables

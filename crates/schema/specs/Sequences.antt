@@ -107,7 +107,7 @@ containerOf state = cond (ltb state states) (ownerFrom class.lastContainer state
 -- what the particle at index i says of a class, if k particles are passed: the class stands at i, or a later particle must tell, or it may not
 -- stand here.
 -- passed: i is before the last particle passed; last: i is that one; same: the class is the particle's
-abbrev choose : (passed last same : Bool) → Particle → ℕ → ℕ → ℕ
+abbrev pub choose : (passed last same : Bool) → Particle → ℕ → ℕ → ℕ
 choose true last same p i later = later
 choose false true true p i later = cond (p .many) i later
 choose false true false p i later = later
