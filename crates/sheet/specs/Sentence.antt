@@ -84,6 +84,6 @@ module _ (w : Wording) where
 unfoldable pub sentence : Sheet → List ℕ
 sentence x = sentenceIn plain x
 
--- no sentence of a sheet in range is longer, its newline included
+-- the length of the longest sentence of a sheet in range, its newline included: proofs/Lengths.antt has a WARN sheet that reaches it
 abbrev pub longest : ℕ
-longest = 739
+longest = 651
