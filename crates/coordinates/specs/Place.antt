@@ -43,20 +43,16 @@ isCoordinate limit l = isDecimal 3 7 (unsigned l) && leb (scaled 7 (unsigned l))
 abbrev pub coordinateValue : List ℕ → ℤ
 coordinateValue l = cond (leads (code "-") l) (negℤ (pos (scaled 7 (unsigned l)))) (pos (scaled 7 (unsigned l)))
 
+abbrev pub coordinateLength : List ℕ → ℕ
+coordinateLength l = signLength l + decimalLength (unsigned l)
+
 -- the coordinate that leads the text l, which stands at offset i
 unfoldable pub coordinateAt : ℕ → ℕ → List ℕ → Coordinate
-coordinateAt limit i l =
-    cond (isCoordinate limit l)
-    (Value (coordinateValue l) (i + (signLength l + decimalLength (unsigned l))))
-    Fault
+coordinateAt limit i l = cond (isCoordinate limit l) (Value (coordinateValue l) (i + coordinateLength l)) Fault
 
--- the coordinate that a whole text of n bytes writes
-abbrev pub wholeText : ℕ → Coordinate → Answer ℤ
-wholeText n (Value z e) = cond (eqb e n) (gives z) (refuses 22 0)
-wholeText n Fault = refuses 22 0
-
+-- the coordinate that a whole text writes
 unfoldable pub degreesOf : ℕ → List ℕ → Answer ℤ
-degreesOf limit l = wholeText (length l) (coordinateAt limit 0 l)
+degreesOf limit l = cond (isCoordinate limit l && eqb (coordinateLength l) (length l)) (gives (coordinateValue l)) (refuses 22 0)
 
 -- ---- "A pair is latitude, comma, longitude"
 
