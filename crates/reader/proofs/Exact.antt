@@ -17,7 +17,7 @@ use Rattle.sheet.specs.declared.Found.the-variants as found
 use Rattle.sheet.specs.declared.Line.the-variants as line
 use Rattle.text.specs.Parts.{startsWith}
 use Rattle.sheet.specs.Sheet.{Sheet, cap, warn, inRange}
-use Rattle.sheet.specs.Sentence.{sentence}
+use Rattle.sheet.specs.Sentence.{sentence, longest}
 use Rattle.sheet.specs.Reading.{warnOf, foundAt, spanIn, sheetIn, sheetOf, isLine, lineAt}
 use Rattle.sheet.specs.Answers.{writing, after}
 use Rattle.sheet.proofs.Lengths.{sentence-le}
@@ -56,8 +56,8 @@ module _ (d : List ℕ) (x : Sheet) where
   pub room-for : {n : ℕ} {b : List ℕ} → gives n ≡ writing d 0 x → b ≡ after d 0 x → n ≤ length b
   room-for e w = rw w (sheet-end e .room)
 
-  -- a buffer of 1,024 bytes has room for every sentence
-  out-of-range : {n p : ℕ} → 1_024 ≤ length d → refuses n p ≡ writing d 0 x → inRange x ≡ false
+  -- a buffer as long as the longest sentence has room for every one
+  out-of-range : {n p : ℕ} → longest ≤ length d → refuses n p ≡ writing d 0 x → inRange x ≡ false
   out-of-range big e =
       by-test (inRange x)
       (λ r. clash (cc (e, write-end d 0 x r (omega (arith, sentence-le x r)) .0)))
@@ -89,7 +89,7 @@ module _ (t : List ℕ) (at : ℕ) {f : Found} (q : f ≡ foundAt at (drop at t)
     unfolding lineAt
     line-differs h = rw (lineAt, line-test ∙ h)
 
-  pub line-refused : {n p : ℕ} → 1_024 ≤ length d → refuses n p ≡ writing d 0 (sheetIn t f) → line.Other ≡ lineAt at (drop at t)
+  pub line-refused : {n p : ℕ} → longest ≤ length d → refuses n p ≡ writing d 0 (sheetIn t f) → line.Other ≡ lineAt at (drop at t)
   unfolding lineAt isLine
   line-refused big e = rw (lineAt, isLine, ← sheet-is, out-of-range d (sheetIn t f) big e)
 

@@ -2,6 +2,7 @@
 // sentence.
 use crate::cap::cap_at;
 use crate::warn::warn_of;
+use readback::LONGEST;
 use readback::write_cap;
 use readback::write_warn;
 use sheet::Found;
@@ -12,9 +13,6 @@ ghost use mathlib.Core.Path.{_≡_};
 ghost use lib.ListN.{drop};
 ghost use Rattle.sheet.specs.Reading.{foundAt, sheetIn, lineAt};
 ghost use Rattle.sheet.specs.Answers.{writing, writeAnswer, after};
-
-// Room for any sentence.
-const SENTENCE_ROOM: usize = 1024;
 
 // What a text says from an offset on, as far as it can be read.
 pub fn found_at(t: &[u8], at: usize) -> Found
@@ -46,7 +44,7 @@ pub fn line_at(t: &[u8], at: usize) -> Line
     ensures { λ r. ⌜ r ≡ lineAt at (drop at (now (t .entry))) ⌝ }
 {
     let found = found_at(t, at);
-    let mut own = [0u8; SENTENCE_ROOM];
+    let mut own = [0u8; LONGEST];
     match write_found(&mut own, t, found) {
         WriteSheet::End(n) => {
             if text::starts_at(t, at, &own[..n]) {

@@ -1,9 +1,8 @@
 -- Sentences are ASCII but for sender and name: so are the words of numbers and durations, the codes, and what stands between them.
-use mathlib.Core.Path.{_≡_, refl, _∙_}
+use mathlib.Core.Path.{_≡_, refl}
 use mathlib.Core.Bool.{Bool, true, false, _&&_}
 use mathlib.Core.List.{List, [], _∷_, _++_, append-assoc}
 use Prim.Native.Nat.{ℕ, zero, suc}
-use lib.Dec.{ltb}
 use lib.ListN.{getD}
 use Rattle.text.specs.Ascii.{ascii}
 use Rattle.text.specs.Logic.{and-left, and-right, and-assoc}
@@ -21,8 +20,7 @@ use Rattle.sheet.specs.declared.Parts.the-variants.{NoPart, OnePart}
 use Rattle.sheet.specs.declared.CapFacts.{CapFacts}
 use Rattle.sheet.specs.declared.WarnFacts.{WarnFacts}
 use Rattle.sheet.specs.Sheet.{Sheet, cap, warn}
-use Rattle.sheet.specs.Sentence.{plain, lastingText, partText, partsText, capText, flag, flagsText, originText, hazardText, warnText, sentenceIn, sentence}
-use Rattle.sheet.specs.Ascii.{allAscii, AsciiAround, AsciiSentence}
+use Rattle.sheet.specs.Sentence.{plain, lastingText, partText, partsText, capText, flag, flagsText, originText, hazardText, warnText, sentenceIn, sentence, allAscii, IsAsciiBut}
 
 ascii-append : (a b : List ℕ) → allAscii (a ++ b) ≡ allAscii a && allAscii b
 unfolding allAscii
@@ -98,22 +96,26 @@ module _ (f : CapFacts) (sender name : List ℕ) where
       ++ (ascii ", " ++ (statusText (f .status)
       ++ (ascii ", " ++ (scopeText (f .scope) ++ ascii ", from ")))))
 
-  cap-ascii : AsciiAround sender name (capText plain f sender name)
-  unfolding capText capFront allAscii
-  cap-ascii = record {
-    front = capFront;
-    middle = ascii ", name ";
-    rest = partsText plain (f .parts) ++ ascii ".\n";
-    split = simp append-assoc;
-    sound =
-        simp (
-          ascii-append,
-          code-ascii (message-numbers (f .message)),
-          code-ascii (status-numbers (f .status)),
-          code-ascii (scope-numbers (f .scope)),
-          parts-ascii,
-        );
-  }
+  capRest : List ℕ
+  capRest = partsText plain (f .parts) ++ ascii ".\n"
+
+  cap-ascii : IsAsciiBut (cap f sender name)
+  unfolding sentence sentenceIn capText capFront capRest allAscii
+  cap-ascii = (
+    capFront,
+    ascii ", name ",
+    capRest,
+    (
+      simp append-assoc,
+      simp (
+        ascii-append,
+        code-ascii (message-numbers (f .message)),
+        code-ascii (status-numbers (f .status)),
+        code-ascii (scope-numbers (f .scope)),
+        parts-ascii,
+      ),
+    ),
+  )
 
 -- ---- a WARN sheet
 
@@ -146,7 +148,7 @@ module _ (x : WarnFacts) where
   unfolding warnText allAscii
   warn-ascii = simp (ascii-append, flags-ascii, origin-ascii, hazard-ascii)
 
-pub ascii-sentence : (x : Sheet) → AsciiSentence x
+pub ascii-but : (x : Sheet) → IsAsciiBut x
 unfolding sentence sentenceIn
-ascii-sentence (cap f sender name) = cap-ascii f sender name
-ascii-sentence (warn x) = warn-ascii x
+ascii-but (cap f sender name) = cap-ascii f sender name
+ascii-but (warn x) = warn-ascii x
