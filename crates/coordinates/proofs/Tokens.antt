@@ -182,7 +182,8 @@ module _ (l : List ℕ) where
       (λ t. rw (after-comma t, is-token (afterComma l) longitudeLimit))
       (λ t. rw t (and-false (isCoordinate latitudeLimit l))))
     where
-      and-false : (a : Bool) → a && false && isCoordinate longitudeLimit (afterComma (token l)) ≡ a && false && isCoordinate longitudeLimit (afterComma l)
+      and-false :
+          (a : Bool) → a && false && isCoordinate longitudeLimit (afterComma (token l)) ≡ a && false && isCoordinate longitudeLimit (afterComma l)
       and-false true = refl
       and-false false = refl
 
@@ -214,7 +215,8 @@ module _ (l : List ℕ) where
     unfolding pairOf
     pair-part t =
         let r = run-rest notSpace (pairLength l) l pair-within in
-        rw (pair-token, p, same-length, token-length l, ne-eqb (pairLength l) (tokenLength l) (λ z. omega (arith, token-some (drop (pairLength l) l) t)))
+        rw (pair-token, p, same-length, token-length l)
+        (rw (ne-eqb (pairLength l) (tokenLength l) (λ z. omega (arith, token-some (drop (pairLength l) l) t))))
 
   pub pair-none : isPair l ≡ false → pairOf (token l) ≡ refuses 22 0
   unfolding pairOf
