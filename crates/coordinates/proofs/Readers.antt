@@ -7,17 +7,18 @@ use Prim.Native.Nat.{ℕ, _+_, _-_, _≤_, _<_}
 use native.Mathlib.Nat.{zero-add}
 use native.Mathlib.Omega.{arith}
 use borrow.Author.Tests.{eq-eqb, ne-eqb}
+use lib.Dec.{eqb}
 use lib.IntN.{ℤ}
 use lib.Signed.{mag}
 use lib.ListN.{length, drop}
 use mir.Syntax.{w32}
-use Rattle.text.specs.Logic.{clash}
+use Rattle.text.specs.Answers.{Answer, gives, refuses}
+use Rattle.text.specs.Logic.{cond-cases, clash}
 use Rattle.integers.specs.Bits.{read, read-given}
 use Rattle.coordinates.specs.Decimal.{leads}
-use Rattle.coordinates.specs.Place.{latitudeLimit, longitudeLimit, coordinateAt, leadingPair, standingAt, pairOf}
+use Rattle.coordinates.specs.Place.{latitudeLimit, longitudeLimit, coordinateAt, leadingPair, standingAt, wholePair, pairOf}
 use Rattle.coordinates.specs.declared.Coordinate.the-variants as coordinate
 use Rattle.coordinates.specs.declared.Place.{Place}
-use Rattle.coordinates.specs.declared.Pair.the-variants as pair
 use Rattle.coordinates.specs.declared.LeadingPair.{LeadingPair}
 use Rattle.coordinates.specs.declared.LeadingPair.the-variants as leading
 use Rattle.coordinates.proofs.Leading.{drop-after}
@@ -71,17 +72,25 @@ stands-at i (leading.At q n) p e h =
     (cc, omega arith)
 stands-at i leading.Fault p e h = clash (cc)
 
--- a whole text
+-- a whole text: it is a pair, or it is refused with 22
+pub pair-cases : (l : List ℕ) (P : Answer Place → Type 0) → ((p : Place) → P (gives p)) → P (refuses 22 0) → P (pairOf l)
+unfolding pairOf
+pair-cases l P f g = go (leadingPair l)
+  where
+    go : (o : LeadingPair) → P (wholePair (length l) o)
+    go (leading.At p e) = cond-cases P (eqb e (length l)) (gives p) (refuses 22 0) (λ t. f p) (λ t. g)
+    go leading.Fault = g
+
 module _ (l : List ℕ) where
-  pub no-pair : standingAt 0 (leadingPair l) ≡ leading.Fault → pair.Fault ≡ pairOf l
+  pub no-pair : standingAt 0 (leadingPair l) ≡ leading.Fault → refuses 22 0 ≡ pairOf l
   unfolding pairOf
   no-pair h = rw (stands-none 0 (leadingPair l) h)
 
   module _ (p : Place) (e : ℕ) (h : standingAt 0 (leadingPair l) ≡ leading.At p e) where
-    pub pair-part : (e ≡ length l → ⊥) → pair.Fault ≡ pairOf l
+    pub pair-part : (e ≡ length l → ⊥) → refuses 22 0 ≡ pairOf l
     unfolding pairOf
     pair-part n = rw (stands-at 0 (leadingPair l) p e h .0, ne-eqb (e - 0) (length l) (λ z. n (omega arith)))
 
-    pub pair-whole : e ≡ length l → pair.At p ≡ pairOf l
+    pub pair-whole : e ≡ length l → gives p ≡ pairOf l
     unfolding pairOf
     pair-whole n = rw (stands-at 0 (leadingPair l) p e h .0, eq-eqb (e - 0) (length l) (omega arith))

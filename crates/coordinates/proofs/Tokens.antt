@@ -11,6 +11,7 @@ use borrow.Author.Tests.{eqb-true, eq-eqb, ne-eqb}
 use lib.IntN.{ℤ}
 use lib.ListN.{length, take, drop}
 use lib.Seq.{take-take, length-take-le}
+use Rattle.text.specs.Answers.{gives, refuses}
 use Rattle.text.specs.Bytes.{isSpace, isDigit, digits}
 use Rattle.text.specs.Logic.{by-test, first-arm, clash}
 use Rattle.text.specs.Tokens.{onToken, tokenLength}
@@ -21,7 +22,6 @@ use Rattle.coordinates.specs.Place.{latitudeLimit, longitudeLimit, signL
 use Rattle.coordinates.specs.declared.Place.{Place}
 use Rattle.coordinates.specs.declared.Coordinate.{Coordinate}
 use Rattle.coordinates.specs.declared.Coordinate.the-variants as coordinate
-use Rattle.coordinates.specs.declared.Pair.the-variants as pair
 use Rattle.coordinates.specs.declared.LeadingPair.the-variants as leading
 use Rattle.coordinates.proofs.Runs.{digit-ge}
 use Rattle.coordinates.proofs.Coordinates.{measured, coordinate-moved}
@@ -213,16 +213,16 @@ module _ (l : List ℕ) where
     pub pair-end : onToken (drop e l) ≡ false → e ≡ tokenLength l
     pair-end t = token-ended e l (leading-within p e q) t
 
-    pub pair-whole : onToken (drop e l) ≡ false → pairOf (token l) ≡ pair.At p
+    pub pair-whole : onToken (drop e l) ≡ false → pairOf (token l) ≡ gives p
     unfolding pairOf
     pair-whole t = rw (leading-token, q, token-length l, eq-eqb e (tokenLength l) (pair-end t))
 
-    pub pair-part : onToken (drop e l) ≡ true → pairOf (token l) ≡ pair.Fault
+    pub pair-part : onToken (drop e l) ≡ true → pairOf (token l) ≡ refuses 22 0
     unfolding pairOf
     pair-part t =
         let r = run-rest notSpace e l (leading-within p e q) in
         rw (leading-token, q, token-length l, ne-eqb e (tokenLength l) (λ z. omega (arith, token-some (drop e l) t)))
 
-  pub pair-none : leadingPair l ≡ leading.Fault → pairOf (token l) ≡ pair.Fault
+  pub pair-none : leadingPair l ≡ leading.Fault → pairOf (token l) ≡ refuses 22 0
   unfolding pairOf
   pair-none q = rw (leading-token, q)

@@ -9,18 +9,17 @@ use borrow.Author.Tests.{leb-true, leb-false, le-leb, lt-leb}
 use lib.Dec.{leb}
 use lib.ListN.{length, getD, drop, drop-of-length-le, length-drop}
 use lib.Seq.{drop-drop}
+use Rattle.text.specs.Answers.{Answer, gives, refuses}
 use Rattle.text.specs.Logic.{cond-cases}
 use Rattle.text.specs.Bytes.{isSpace, spaces}
 use Rattle.text.specs.Tokens.{onToken, tokens, tokenLength}
 use Rattle.text.proofs.Runs.{drop-next}
 use Rattle.text.proofs.Laws.{token-within, tokens-space, token-or-end, tokens-next, token-some}
 use Rattle.coordinates.specs.declared.Place.{Place}
-use Rattle.coordinates.specs.declared.Pair.{Pair}
-use Rattle.coordinates.specs.declared.Pair.the-variants as pair
 use Rattle.coordinates.specs.declared.LeadingPair.the-variants as leading
 use Rattle.coordinates.specs.Place.{pairOf, leadingPair, standingAt}
 use Rattle.coordinates.proofs.Leading.{drop-after}
-use Rattle.coordinates.proofs.Readers.{stands-none, stands-at}
+use Rattle.coordinates.proofs.Readers.{stands-none, stands-at, pair-cases}
 use Rattle.coordinates.proofs.Tokens.{pair-end, pair-whole, pair-part, pair-none}
 use Rattle.polygon.specs.declared.pairs.Next.{Next}
 use Rattle.polygon.specs.declared.pairs.Next.the-variants as next
@@ -105,9 +104,9 @@ module _ (l : List ℕ) (at : ℕ) where
 
 -- what each answer says of the tokens
 abbrev pub Says : List ℕ → ℕ → Next → Type 0
-Says l at (next.Pair p e) = (t : List ℕ) × (Token l at t e × (pairOf t ≡ pair.At p))
+Says l at (next.Pair p e) = (t : List ℕ) × (Token l at t e × (pairOf t ≡ gives p))
 Says l at next.End = tokens (drop at l) ≡ []
-Says l at next.Fault = (t : List ℕ) × ((e : ℕ) × (Token l at t e × (pairOf t ≡ pair.Fault)))
+Says l at next.Fault = (t : List ℕ) × ((e : ℕ) × (Token l at t e × (pairOf t ≡ refuses 22 0)))
 
 pub says : (l : List ℕ) (at : ℕ) (n : Next) → nextOf l at ≡ n → Says l at n
 unfolding nextOf
@@ -115,13 +114,12 @@ says l at n e =
     subst (Says l at) e
     (cond-cases (Says l at) (leb (length l) (startOf l at)) next.End (endingAt (endOf l (startOf l at)) (pairOf (tokenAt l (startOf l at))))
     (λ t. no-token l at (leb-true (length l) (startOf l at) t))
-    (λ t. go (pairOf (tokenAt l (startOf l at))) refl (token-is l at (leb-false (length l) (startOf l at) t))))
-  where
-    go :
-        (v : Pair) → pairOf (tokenAt l (startOf l at)) ≡ v → Token l at (tokenAt l (startOf l at)) (endOf l (startOf l at))
-        → Says l at (endingAt (endOf l (startOf l at)) v)
-    go (pair.At p) q k = (tokenAt l (startOf l at), (k, q))
-    go pair.Fault q k = (tokenAt l (startOf l at), (endOf l (startOf l at), (k, q)))
+    (λ t.
+    let k = token-is l at (leb-false (length l) (startOf l at) t) in
+    pair-cases (tokenAt l (startOf l at)) (λ v. pairOf (tokenAt l (startOf l at)) ≡ v → Says l at (endingAt (endOf l (startOf l at)) v))
+    (λ p q. (tokenAt l (startOf l at), (k, q)))
+    (λ q. (tokenAt l (startOf l at), (endOf l (startOf l at), (k, q))))
+    refl))
 
 pub next-further : (l : List ℕ) (at e : ℕ) (p : Place) → nextOf l at ≡ next.Pair p e → at < e
 next-further l at e p h = says l at (next.Pair p e) h .1 .0 .further
