@@ -6,17 +6,13 @@ use Prim.Native.Nat.{ℕ, zero, suc}
 use lib.Dec.{T, eqb, leb, ltb}
 use lib.ListN.{length}
 use Rattle.text.specs.Logic.{cond-cases}
-use Rattle.time.specs.declared.Time.{Time}
-use Rattle.time.specs.declared.Time.the-variants as time
-use Rattle.time.specs.Time.{timeOf}
+use Rattle.time.proofs.Answer.{time-cases}
 use Rattle.sheet.specs.Sheet.{allNameBytes}
-use Rattle.polygon.specs.Polygon.{isPolygon}
-use Rattle.circle.specs.declared.Circle.{Circle}
-use Rattle.circle.specs.declared.Circle.the-variants as circle
-use Rattle.circle.specs.Circle.{circleOf}
+use Rattle.polygon.proofs.Rings.{polygon-cases}
+use Rattle.circle.proofs.Texts.{circle-cases}
 use Rattle.schema.specs.Classes as class
 use Rattle.rules.specs.Codes.{codeOf, hasCodes}
-use Rattle.rules.specs.Texts.{nameRule, codeRule, timeNumber, timeRule, polygonRule, circleNumber, circleRule, isTime, textRule}
+use Rattle.rules.specs.Texts.{nameRule, codeRule, numberOf, timeRule, polygonRule, circleRule, isTime, textRule}
 
 abbrev pub isNumber : ℕ → Bool
 isNumber n = leb 14 n && leb n 19 || eqb n 22
@@ -26,16 +22,20 @@ abbrev pub RuleNumber : ℕ → Type 0
 RuleNumber zero = Prim.Unit
 RuleNumber (suc n) = T (isNumber (suc n))
 
-time-number : (r : Time) → RuleNumber (timeNumber r)
-time-number (time.Instant i) = tt
-time-number time.Fault = tt
+time-number : (t : List ℕ) → RuleNumber (timeRule t)
+unfolding timeRule
+time-number t = time-cases t (λ a. RuleNumber (numberOf a)) (λ i. tt) tt
 
-circle-number : (r : Circle) → RuleNumber (circleNumber r)
-circle-number (circle.Around centre metres) = tt
-circle-number circle.Fault = tt
+polygon-number : (t : List ℕ) → RuleNumber (polygonRule t)
+unfolding polygonRule
+polygon-number t = polygon-cases t (λ a. RuleNumber (numberOf a)) (λ ring. tt) tt
+
+circle-number : (t : List ℕ) → RuleNumber (circleRule t)
+unfolding circleRule
+circle-number t = circle-cases t (λ a. RuleNumber (numberOf a)) (λ c m. tt) tt
 
 pub rule-number : (c : ℕ) (t : List ℕ) → RuleNumber (textRule c t)
-unfolding textRule nameRule codeRule timeRule polygonRule circleRule
+unfolding textRule nameRule codeRule
 rule-number c t =
     cases (eqb c class.identifier || eqb c class.sender) _ _
     (λ e.
@@ -43,9 +43,9 @@ rule-number c t =
     cases (leb 1 (length t) && allNameBytes t) _ _ (λ g. tt) (λ g. tt))
     λ e.
     cases (hasCodes c) _ _ (λ f. cases (eqb (codeOf c t) 0) _ _ (λ g. tt) (λ g. tt)) λ f.
-    cases (isTime c) _ _ (λ g. time-number (timeOf t)) λ g.
-    cases (eqb c class.polygon) _ _ (λ h. cases (isPolygon t) _ _ (λ i. tt) (λ i. tt)) λ h.
-    cases (eqb c class.circle) _ _ (λ i. circle-number (circleOf t)) (λ i. tt)
+    cases (isTime c) _ _ (λ g. time-number t) λ g.
+    cases (eqb c class.polygon) _ _ (λ h. polygon-number t) λ h.
+    cases (eqb c class.circle) _ _ (λ i. circle-number t) (λ i. tt)
   where
     cases : (t : Bool) (x y : ℕ) → (t ≡ true → RuleNumber x) → (t ≡ false → RuleNumber y) → RuleNumber (cond t x y)
     cases = cond-cases RuleNumber

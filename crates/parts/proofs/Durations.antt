@@ -10,14 +10,14 @@ use lib.IntN.{ℤ, pos, negsuc, natAbs, _-ℤ_}
 use lib.Signed.{mag, nonNeg, leZ}
 use mir.Syntax.{w32, w64}
 use mir.Val.{Fits, SFits}
-use Rattle.text.specs.Answers.{gives, refuses}
+use Rattle.text.specs.Answers.{Answer, gives, refuses}
 use Rattle.text.specs.Logic.{and-right, clash}
 use Rattle.integers.specs.Magnitude.{abs-sub}
 use Rattle.integers.specs.Bits.{read, read-given, read-small}
 use Rattle.integers.specs.Reads.{reads-abs, sub-fits, sub-reads}
 use Rattle.time.specs.declared.Time.{Time}
-use Rattle.time.specs.declared.Time.the-variants.{Instant, Fault}
-use Rattle.time.specs.Time.{timeOf}
+use Rattle.time.specs.declared.Time.the-variants.{Instant}
+use Rattle.time.specs.Time.{timeOf, timeAnswer}
 use Rattle.time.proofs.Range.{range}
 use Rattle.sheet.specs.declared.Lasting.the-variants as lasting
 use Rattle.parts.specs.Sheets.{between, startOf, lastsFrom}
@@ -52,22 +52,23 @@ module _ (start end : ℤ) (near : (natAbs start ≤ farthest) × (natAbs end �
     pub far-cast : T (nonNeg (read w64 (read w64 end -ℤ read w64 start))) × Fits w32 (natAbs (read w64 (read w64 end -ℤ read w64 start)))
     far-cast = lasting-fits (read w64 (read w64 end -ℤ read w64 start)) e
 
-    pub far-stated : gives (lasting.Seconds (natAbs (read w64 (read w64 end -ℤ read w64 start)))) ≡ lastsFrom (Instant start) (Instant end)
+    pub far-stated : gives (lasting.Seconds (natAbs (read w64 (read w64 end -ℤ read w64 start)))) ≡ lastsFrom (gives start) (gives end)
     far-stated = rw (← far-is) (rw (between-tested (read w64 (read w64 end -ℤ read w64 start)), e) refl)
 
-  pub far-out : tested (read w64 (read w64 end -ℤ read w64 start)) ≡ false → refuses 7 0 ≡ lastsFrom (Instant start) (Instant end)
+  pub far-out : tested (read w64 (read w64 end -ℤ read w64 start)) ≡ false → refuses 7 0 ≡ lastsFrom (gives start) (gives end)
   far-out e = rw (← far-is) (rw (between-tested (read w64 (read w64 end -ℤ read w64 start)), e) refl)
 
 -- ---- instants that a match gave
 
 -- an instant that is handed on
 pub start-given :
-    (effective sent : Time) (i : ℤ) → effective ≡ Instant i → mag i < 9_223_372_036_854_775_808 → Instant (read w64 i) ≡ startOf effective sent
-start-given effective sent i e h = rw e (ap Instant (read-given w64 i h))
+    (effective sent : Time) (i : ℤ) → effective ≡ Instant i → mag i < 9_223_372_036_854_775_808
+    → gives (read w64 i) ≡ startOf (timeAnswer effective) (timeAnswer sent)
+start-given effective sent i e h = rw e (ap gives (read-given w64 i h))
 
-module _ (t : Time) (i : ℤ) (is : t ≡ Instant i) (near : isNear t) where
+module _ (t : Time) (i : ℤ) (is : t ≡ Instant i) (near : isNear (timeAnswer t)) where
   near-instant : natAbs i ≤ farthest
-  near-instant = subst isNear is near
+  near-instant = subst (λ (r : Time). isNear (timeAnswer r)) is near
 
   instant-read : read w64 i ≡ i
   instant-read = read-small i (omega (arith, near-instant))
@@ -76,8 +77,8 @@ module _ (t : Time) (i : ℤ) (is : t ≡ Instant i) (near : isNear t) where
   near-read = rw instant-read near-instant
 
 pub lasts-given :
-    (start expires : Time) (i e : ℤ) → start ≡ Instant i → expires ≡ Instant e → isNear start × isNear expires
-    → lastsFrom (Instant (read w64 i)) (Instant (read w64 e)) ≡ lastsFrom start expires
+    (start expires : Time) (i e : ℤ) → start ≡ Instant i → expires ≡ Instant e → isNear (timeAnswer start) × isNear (timeAnswer expires)
+    → lastsFrom (gives (read w64 i)) (gives (read w64 e)) ≡ lastsFrom (timeAnswer start) (timeAnswer expires)
 lasts-given start expires i e p q near =
     rw (instant-read start i p (near .0), instant-read expires e q (near .1), p, q) refl
 
@@ -87,14 +88,14 @@ lasts-given start expires i e p q near =
 pub near-time : (t : List ℕ) → isNear (timeOf t)
 near-time t = go (timeOf t) refl
   where
-    go : (r : Time) → timeOf t ≡ r → isNear r
-    go (Instant i) q = range t i q
-    go Fault q = tt
+    go : (r : Answer ℤ) → timeOf t ≡ r → isNear r
+    go (gives i) q = range t i q
+    go (refuses n p) q = tt
 
 -- the start of a part, by its two texts
 pub near-from : (effective sent : List ℕ) → isNear (startOf (timeOf effective) (timeOf sent))
 near-from effective sent = go (timeOf effective) (near-time effective)
   where
-    go : (r : Time) → isNear r → isNear (startOf r (timeOf sent))
-    go (Instant i) h = h
-    go Fault h = near-time sent
+    go : (r : Answer ℤ) → isNear r → isNear (startOf r (timeOf sent))
+    go (gives i) h = h
+    go (refuses n p) h = near-time sent

@@ -10,8 +10,6 @@ use lib.ListN.{length}
 use Rattle.text.specs.Logic.{by-test, cond-cases}
 use Rattle.text.specs.Answers.{Answer, gives, refuses, andThen, giving}
 use Rattle.words.specs.Duration.{isLasting}
-use Rattle.time.specs.declared.Time.{Time}
-use Rattle.time.specs.declared.Time.the-variants as time
 use Rattle.time.specs.Time.{timeOf}
 use Rattle.sheet.specs.declared.Lasting.{Lasting}
 use Rattle.sheet.specs.declared.Lasting.the-variants as lasting
@@ -45,10 +43,10 @@ seconds-right (pos n) = cond-cases (Given (λ d. isLastingTime d ≡ true)) (isL
 seconds-right (negsuc n) = tt
 
 -- so is any lasting time that is stated
-lasting-right : (start expires : Time) → Given (λ d. isLastingTime d ≡ true) (lastsFrom start expires)
-lasting-right start time.Fault = refl
-lasting-right time.Fault (time.Instant e) = tt
-lasting-right (time.Instant s) (time.Instant e) = seconds-right (e -ℤ s)
+lasting-right : (start expires : Answer ℤ) → Given (λ d. isLastingTime d ≡ true) (lastsFrom start expires)
+lasting-right start (refuses n p) = refl
+lasting-right (refuses n p) (gives e) = tt
+lasting-right (gives s) (gives e) = seconds-right (e -ℤ s)
 
 lasts-right : (l : List ℕ) (alert part : ℕ → Span) → Given (λ d. isLastingTime d ≡ true) (lastsOf l alert part)
 unfolding lastsOf

@@ -3,12 +3,11 @@
 use mathlib.Core.Bool.{false, cond, _&&_, _||_}
 use mathlib.Core.List.{List}
 use Prim.Native.Nat.{ℕ, _-_, _≤_}
-use lib.IntN.{natAbs}
+use lib.IntN.{ℤ, natAbs}
 use lib.Dec.{eqb, leb, ltb}
 use lib.ListN.{getD, set, replicate}
+use Rattle.text.specs.Answers.{Answer, gives, refuses}
 use Rattle.sheet.specs.declared.Span.{Span}
-use Rattle.time.specs.declared.Time.{Time}
-use Rattle.time.specs.declared.Time.the-variants as time
 use Rattle.coordinates.specs.declared.Place.{Place}
 use Rattle.schema.specs.Classes as class
 use Rattle.document.specs.Elements.{Element, opened, text, closed, answer}
@@ -88,6 +87,6 @@ viewOf n p l = answer view.Accepted view.Refused (seen n p) 0 noShapes (document
 abbrev pub farthest : ℕ
 farthest = 300_000_000_000
 
-abbrev pub isNear : Time → Type 0
-isNear (time.Instant i) = natAbs i ≤ farthest
-isNear time.Fault = Unit {0}
+abbrev pub isNear : Answer ℤ → Type 0
+isNear (gives i) = natAbs i ≤ farthest
+isNear (refuses n p) = Unit {0}

@@ -1,12 +1,10 @@
 -- Whether a place is inside a part: "Asking about a place, likewise: 21, 6".
-use mathlib.Core.Bool.{Bool, true, false, cond, _||_}
+use mathlib.Core.Bool.{Bool, false, cond, _||_}
 use mathlib.Core.List.{List, [], _∷_}
 use Prim.Native.Nat.{ℕ}
 use lib.Dec.{eqb}
 use Rattle.text.specs.Answers.{Answer, gives, refuses, andThen}
 use Rattle.coordinates.specs.declared.Place.{Place}
-use Rattle.coordinates.specs.declared.Inclusion.{Inclusion}
-use Rattle.coordinates.specs.declared.Inclusion.the-variants as inclusion
 use Rattle.coordinates.specs.Place.{inRange}
 use Rattle.polygon.specs.Polygon.{polygonHolds}
 use Rattle.circle.specs.Circle.{circleHolds}
@@ -21,10 +19,9 @@ use Rattle.parts.specs.Elements.{partOf, lookUp}
 abbrev pub isShape : ℕ → Bool
 isShape c = eqb c class.polygon || eqb c class.circle
 
-abbrev pub isInside : Inclusion → Bool
-isInside inclusion.Inside = true
-isInside inclusion.Outside = false
-isInside inclusion.Fault = false
+abbrev pub isInside : Answer Bool → Bool
+isInside (gives b) = b
+isInside (refuses n q) = false
 
 abbrev pub shapeHolds : Place → ℕ → List ℕ → Bool
 shapeHolds p c t = cond (eqb c class.polygon) (isInside (polygonHolds t p)) (cond (eqb c class.circle) (isInside (circleHolds t p)) false)

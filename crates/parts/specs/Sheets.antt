@@ -6,8 +6,6 @@ use lib.Dec.{eqb}
 use lib.IntN.{ℤ, pos, negsuc, natAbs, _-ℤ_}
 use Rattle.text.specs.Answers.{Answer, gives, refuses, andThen, giving}
 use Rattle.words.specs.Duration.{isLasting}
-use Rattle.time.specs.declared.Time.{Time}
-use Rattle.time.specs.declared.Time.the-variants as time
 use Rattle.time.specs.Time.{timeOf}
 use Rattle.sheet.specs.declared.Lasting.{Lasting}
 use Rattle.sheet.specs.declared.Lasting.the-variants as lasting
@@ -33,19 +31,19 @@ use Rattle.parts.specs.Codes.{messageOf, statusOf, scopeOf, urgencyOf, s
 
 -- the time from which a part lasts. The texts are those of an accepted document, whose times are
 -- instants: no time is said only where there is no element
-abbrev pub startOf : (effective sent : Time) → Time
-startOf (time.Instant i) sent = time.Instant i
-startOf time.Fault sent = sent
+abbrev pub startOf : (effective sent : Answer ℤ) → Answer ℤ
+startOf (gives i) sent = gives i
+startOf (refuses n p) sent = sent
 
 -- 7: "lasting time not 1 to 31,536,000 seconds"
 abbrev pub between : ℤ → Bool
 between (pos n) = isLasting n
 between (negsuc n) = false
 
-abbrev pub lastsFrom : (start expires : Time) → Answer Lasting
-lastsFrom start time.Fault = gives lasting.Unstated
-lastsFrom time.Fault (time.Instant e) = refuses 7 0
-lastsFrom (time.Instant s) (time.Instant e) = cond (between (e -ℤ s)) (gives (lasting.Seconds (natAbs (e -ℤ s)))) (refuses 7 0)
+abbrev pub lastsFrom : (start expires : Answer ℤ) → Answer Lasting
+lastsFrom start (refuses n p) = gives lasting.Unstated
+lastsFrom (refuses n p) (gives e) = refuses 7 0
+lastsFrom (gives s) (gives e) = cond (between (e -ℤ s)) (gives (lasting.Seconds (natAbs (e -ℤ s)))) (refuses 7 0)
 
 abbrev pub lastsAnswer : Lasts → Answer Lasting
 lastsAnswer (lasts.Stated d) = gives d

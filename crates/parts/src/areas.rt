@@ -10,6 +10,7 @@ use document::Step;
 use schema::class;
 ghost use mathlib.Core.Path.{_≡_};
 ghost use Rattle.text.specs.Answers.{gives};
+ghost use Rattle.coordinates.specs.Answers.{inclusionAnswer};
 ghost use Rattle.document.specs.Elements.{fold};
 ghost use Rattle.document.specs.Documents.{elementsOf};
 ghost use Rattle.parts.specs.Places.{isInside, shapeHolds, sideOf, placedInPart, placeAnswer};
@@ -17,7 +18,7 @@ ghost use Rattle.parts.specs.Gathering.{seenText, seen, viewOf};
 
 // Whether a shape said that it holds the place.
 fn is_inside(inclusion: Inclusion) -> bool
-    ensures { λ r. ⌜ r ≡ isInside inclusion ⌝ }
+    ensures { λ r. ⌜ r ≡ isInside (inclusionAnswer inclusion) ⌝ }
 {
     match inclusion {
         Inclusion::Inside => true,

@@ -5,7 +5,8 @@ use time::Time;
 ghost use mathlib.Core.Path.{_≡_};
 ghost use Prim.Native.Nat.{_≤_};
 ghost use lib.IntN.{natAbs};
-ghost use Rattle.time.specs.declared.Time.the-variants.{Instant};
+ghost use Rattle.text.specs.Answers.{gives};
+ghost use Rattle.time.specs.Time.{timeAnswer};
 ghost use Rattle.parts.specs.Sheets.{startOf, lastsFrom, lastsAnswer};
 ghost use Rattle.parts.specs.Gathering.{farthest, isNear};
 
@@ -14,7 +15,7 @@ const LONGEST: i64 = 31_536_000;
 
 // The time from which a part lasts.
 pub fn start_of(effective: Time, sent: Time) -> Time
-    ensures { λ r. ⌜ r ≡ startOf effective sent ⌝ }
+    ensures { λ r. ⌜ timeAnswer r ≡ startOf (timeAnswer effective) (timeAnswer sent) ⌝ }
 {
     match effective {
         Time::Instant(i) => Time::Instant(i),
@@ -25,7 +26,7 @@ pub fn start_of(effective: Time, sent: Time) -> Time
 // How long it is from one instant to another.
 fn lasts_between(start: i64, end: i64) -> Lasts
     requires { ⌜ (natAbs start ≤ farthest) × (natAbs end ≤ farthest) ⌝ }
-    ensures { λ r. ⌜ lastsAnswer r ≡ lastsFrom (Instant start) (Instant end) ⌝ }
+    ensures { λ r. ⌜ lastsAnswer r ≡ lastsFrom (gives start) (gives end) ⌝ }
 {
     let seconds = end - start;
     if (1 <= seconds) & (seconds <= LONGEST) {
@@ -36,8 +37,8 @@ fn lasts_between(start: i64, end: i64) -> Lasts
 
 // How long a part lasts that starts at one time and expires at another.
 pub fn lasts_from(start: Time, expires: Time) -> Lasts
-    requires { ⌜ isNear start × isNear expires ⌝ }
-    ensures { λ r. ⌜ lastsAnswer r ≡ lastsFrom start expires ⌝ }
+    requires { ⌜ isNear (timeAnswer start) × isNear (timeAnswer expires) ⌝ }
+    ensures { λ r. ⌜ lastsAnswer r ≡ lastsFrom (timeAnswer start) (timeAnswer expires) ⌝ }
 {
     match expires {
         Time::Fault => Lasts::Stated(Lasting::Unstated),

@@ -19,14 +19,14 @@ ghost use mathlib.Core.Path.{_≡_};
 ghost use Rattle.text.specs.Answers.{gives, giving};
 ghost use Prim.Native.Nat.{_≤_};
 ghost use Rattle.codes.specs.Lists.{codeOf};
-ghost use Rattle.time.specs.Time.{timeOf};
+ghost use Rattle.time.specs.Time.{timeOf, timeAnswer};
 ghost use Rattle.sheet.specs.Reading.{spanIn};
 ghost use Rattle.parts.specs.Sheets.{lastsOf, lastsAnswer, partFacts, sheetWith, partsOf, sheetOfPart, sheetAnswer};
 ghost use Rattle.parts.specs.Gathering.{alertSpan, partSpan};
 
 // The time that the text at a span says.
 fn time_in(s: &[u8], span: Span) -> Time
-    ensures { λ r. ⌜ r ≡ timeOf (spanIn (now (s .entry)) span) ⌝ }
+    ensures { λ r. ⌜ timeAnswer r ≡ timeOf (spanIn (now (s .entry)) span) ⌝ }
 {
     time::read_time(span_in(s, span))
 }

@@ -35,7 +35,7 @@ use Rattle.sheet.specs.Reading.{sheetIn}
 use Rattle.coordinates.specs.declared.Place.{Place}
 use Rattle.coordinates.specs.Decimal.{leads, places, fraction, decimalLength, isDecimal, scaled, radiusOf}
 use Rattle.coordinates.specs.Place.{coordinateAt, degreesOf, pairOf}
-use Rattle.polygon.specs.Polygon.{allPairs, placesOf, lastOf, isClosed, isPolygon, eastOf, northOf, onEdge, crosses, onRing, crossings, inRing, polygonHolds}
+use Rattle.polygon.specs.Polygon.{polygonOf, placesOf, lastOf, isClosed, eastOf, northOf, onEdge, crosses, onRing, crossings, inRing, polygonHolds}
 use Rattle.circle.specs.Cosine.{cosines}
 use Rattle.circle.specs.Circle.{circleTokens, circleOf, inCircle, aroundHolds, circleHolds}
 use Rattle.codes.specs.Lists.{lists, codeOf, smallText}
@@ -170,7 +170,7 @@ unfolding capSheet sheetIn lastsOf lookUp within fold starts documentOf firstSte
     attribute.equals attribute.value tags.tail tags.tagEnd startsWith numberFrom sentence sentenceIn capText partsText partText lastingText dictionary
     word spaced ones belowHundred belowThousand group numberCodes said counted durationCodes lasting capPlace anyText polygonRule circleRule
     circleHolds aroundHolds inCircle cosines circleOf circleTokens radiusOf polygonHolds inRing onRing crossings onEdge crosses eastOf northOf
-    isPolygon allPairs placesOf isClosed lastOf pairOf degreesOf coordinateAt scaled fraction places decimalLength isDecimal leads tokens onToken
+    polygonOf placesOf isClosed lastOf pairOf degreesOf coordinateAt scaled fraction places decimalLength isDecimal leads tokens onToken
     longer
 samples = record {
   sample-alert = (refl, refl, refl);
