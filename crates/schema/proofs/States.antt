@@ -69,18 +69,18 @@ module _ {c k : ℕ} (a : Among c k) where
       rw (and-right (ltb 0 (state c k)) _ t, lt-ltb d classes h, ne-eqb (state c k) 0 (λ e. omega (arith, e)), container-is, z)
 
   module _ (d : ℕ) (n : follows k d 1 (particles c) ≡ 0 → ⊥) where
-    within : (0 < d) × (d < classes)
-    within = class-within k d 1 (particles c) (is-sequence c (a .container)) n
+    pub known : (0 < d) × (d < classes)
+    known = class-within k d 1 (particles c) (is-sequence c (a .container)) n
 
     -- an element that may stand leads on: a leaf to the state after its particle, a container to its own first state
     pub leaf-next : class.lastContainer < d → nextOf (state c k) d ≡ state c (follows k d 1 (particles c))
-    leaf-next h = next-is d (within .1) ∙ rw (ne-eqb d 0 (λ e. omega (arith, e)), ne-eqb (follows k d 1 (particles c)) 0 n, lt-leb d class.lastContainer h)
+    leaf-next h = next-is d (known .1) ∙ rw (ne-eqb d 0 (λ e. omega (arith, e)), ne-eqb (follows k d 1 (particles c)) 0 n, lt-leb d class.lastContainer h)
 
     pub container-next : d ≤ class.lastContainer → nextOf (state c k) d ≡ state d 0
     container-next h =
         let z : firstState d ≡ firstState d + 0 = omega arith in
-        next-is d (within .1)
-        ∙ rw (ne-eqb d 0 (λ e. omega (arith, e, within .0)), ne-eqb (follows k d 1 (particles c)) 0 n, le-leb d class.lastContainer h) z
+        next-is d (known .1)
+        ∙ rw (ne-eqb d 0 (λ e. omega (arith, e, known .0)), ne-eqb (follows k d 1 (particles c)) 0 n, le-leb d class.lastContainer h) z
 
     pub among-next : Among c (follows k d 1 (particles c))
     among-next = record { container = a .container; passed = omega (arith, index-within k d 1 (particles c) n .1) }
@@ -91,7 +91,7 @@ module _ {c k : ℕ} (a : Among c k) where
         let t : isBack c k d ≡ true =
         below-at (class.lastContainer + 1) (isBack c k) (true-T _ (and-right (isState c k) _ right-in)) d (omega arith) in
         eqb-true (afterEnd d) (state c (follows k d 1 (particles c)))
-        (rw (ne-eqb d 0 (λ e. omega (arith, e, within .0)), ne-eqb (follows k d 1 (particles c)) 0 n) at t)
+        (rw (ne-eqb d 0 (λ e. omega (arith, e, known .0)), ne-eqb (follows k d 1 (particles c)) 0 n) at t)
 
   -- what stands where it may is one of the container's particles
   pub may-follow : (d : ℕ) → 0 < d → (nextOf (state c k) d ≡ 0 → ⊥) → follows k d 1 (particles c) ≡ 0 → ⊥
