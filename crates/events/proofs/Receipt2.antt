@@ -10,7 +10,7 @@ use lib.Dec.{ltb}
 use lib.ListN.{length, getD, set, length-set}
 use lib.Seq.{getD-set-same, getD-set-other}
 use Rattle.text.specs.Logic.{by-test, cond-cases, clash}
-use Rattle.text.specs.Answers.{Answer, gives, refuses}
+use Rattle.text.specs.Answers.{Answer, gives, refuses, andThen}
 use Rattle.packet.specs.declared.Fields.{Fields}
 use Rattle.packet.specs.Packet.{packetOf}
 use Rattle.packet.proofs.Acceptance.{refusal-numbers}
@@ -18,7 +18,7 @@ use Rattle.packet.proofs.Widths.{sequence-lt}
 use Rattle.events.specs.declared.Entry.{Entry}
 use Rattle.events.specs.declared.New.{New as Item}
 use Rattle.events.specs.declared.Receipt.{Receipt}
-use Rattle.events.specs.Table.{blank, isOf, isFree, indexOf, freeIndex, newOf, renewed, fresh, Outcome, outcome, again, anew, tableOutcome, isClockOutOfRange, isListed, answered, received, receiptAnswer, answerNumber}
+use Rattle.events.specs.Table.{blank, isOf, isFree, indexOf, freeIndex, newOf, renewed, fresh, Outcome, outcome, again, anew, tableOutcome, isClockOutOfRange, isListed, checked, answered, received, receiptAnswer, answerNumber}
 use Rattle.events.specs.Demand2.{OnlyAt, FirstAt, NoneOf, Call, Passes, Known, New, Stored, inEntry, inFree, Demand2, answerOf}
 use Rattle.events.proofs.Search.{index-is, index-none, first-at, none-of}
 use Rattle.events.proofs.Sweeping.{swept-none, swept-free}
@@ -52,17 +52,21 @@ module _ (es : List Entry) where
       (λ _. cond-cases (Sound es) (ltb (freeIndex es) (length es)) _ _ (λ _. accepting _) (λ _. refusing 11 (omega arith) (omega arith)))
 
   module _ (p keys : List ℕ) (verdict : Bool) (clock : ℕ) where
-    answered-sound : (q : Answer Fields) → packetOf p ≡ q → Sound es (answered keys verdict clock es q)
+    stops : (n : ℕ) → 1 ≤ n → n ≤ 12 → (q : Answer Item) (t : Bool) → Sound es (answered es q) → Sound es (answered es (cond t (refuses n 0) q))
+    stops n low high q t h = cond-cases (λ x. Sound es (answered es x)) t (refuses n 0) q (λ _. refusing n low high) (λ _. h)
+
+    answered-sound : (q : Answer Fields) → packetOf p ≡ q → Sound es (answered es (andThen q (checked keys verdict clock)))
+    unfolding checked
     answered-sound (refuses n at) e = λ m k g.
         let r = refusal-numbers p n at e in
         let f : n ≡ m = cc in
         let h : at ≡ k = cc in
         (refl, rw (← f) (r .0), omega (arith, r .1, f), sym h ∙ r .2)
     answered-sound (gives f) e =
-        cond-cases (Sound es) (isClockOutOfRange clock) _ _ (λ _. refusing 12 (omega arith) (omega arith))
-        (λ _. cond-cases (Sound es) (not (isListed keys (f .key))) _ _ (λ _. refusing 8 (omega arith) (omega arith))
-        (λ _. cond-cases (Sound es) (not verdict) _ _ (λ _. refusing 9 (omega arith) (omega arith))
-        (λ _. table-sound (newOf clock f))))
+        stops 12 (omega arith) (omega arith) _ (isClockOutOfRange clock)
+        (stops 8 (omega arith) (omega arith) _ (not (isListed keys (f .key)))
+        (stops 9 (omega arith) (omega arith) _ (not verdict)
+        (table-sound (newOf clock f))))
 
     received-sound : Sound es (received es p keys verdict clock)
     unfolding received
@@ -84,7 +88,7 @@ module _ (es : List Entry) (p keys : List ℕ) (verdict : Bool) (clock : ℕ) (a
   -- ---- a packet that passes every earlier check
   module _ (f : Fields) (passed : Passes es p keys verdict clock a fs f) where
     by-table : got ≡ tableOutcome (newOf clock f) es
-    unfolding received
+    unfolding received checked
     by-table = is-received ∙ rw (passed .alert, passed .timely, passed .listed, passed .verified)
 
     -- an event with an entry
@@ -162,19 +166,20 @@ module _ (es : List Entry) (p keys : List ℕ) (verdict : Bool) (clock : ℕ) (a
 
   -- ---- an accepted packet passes every check
   passes-all : a ≡ gives tt → (f : Fields) × Passes es p keys verdict clock a fs f
-  unfolding received
+  unfolding received checked
   passes-all r = go (packetOf p) refl (sym (call .answer) ∙ r)
     where
-      accepted-by : (n : ℕ) (o : Outcome) (t : Bool) → cond t (outcome (refuses n 0) es) o .answer ≡ gives tt → (t ≡ false) × (o .answer ≡ gives tt)
-      accepted-by n o true e = clash (cc)
-      accepted-by n o false e = (refl, e)
+      past : (n : ℕ) (q : Answer Item) (t : Bool) → answered es (cond t (refuses n 0) q) .answer ≡ gives tt → (t ≡ false) × (answered es q .answer ≡ gives tt)
+      past n q true e = clash (cc)
+      past n q false e = (refl, e)
 
-      go : (q : Answer Fields) → packetOf p ≡ q → answered keys verdict clock es q .answer ≡ gives tt → (f : Fields) × Passes es p keys verdict clock a fs f
+      go : (q : Answer Fields) → packetOf p ≡ q → answered es (andThen q (checked keys verdict clock)) .answer ≡ gives tt
+          → (f : Fields) × Passes es p keys verdict clock a fs f
       go (refuses n at) e g = clash (cc)
       go (gives f) e g =
-          let e₁ = accepted-by 12 _ (isClockOutOfRange clock) g in
-          let e₂ = accepted-by 8 _ (not (isListed keys (f .key))) (e₁ .1) in
-          let e₃ = accepted-by 9 _ (not verdict) (e₂ .1) in
+          let e₁ = past 12 _ (isClockOutOfRange clock) g in
+          let e₂ = past 8 _ (not (isListed keys (f .key))) (e₁ .1) in
+          let e₃ = past 9 _ (not verdict) (e₂ .1) in
           (f, record { alert = e; timely = e₁ .0; listed = not-false _ (e₂ .0); verified = not-false _ (e₃ .0) })
 
   pub demand-2 : Demand2 es p keys verdict clock a fs
