@@ -1,3 +1,4 @@
 pub mod Search
 pub mod Sweeping
 pub mod Outcomes
+pub mod Receipt2

@@ -1,26 +1,25 @@
 -- The checks, the pass over the entries and the plan come to `received`, over entries of any number.
 use mathlib.Core.Path.{_≡_, refl, sym, _∙_, ap}
-use mathlib.Core.Bool.{Bool, true, false, cond, not}
+use mathlib.Core.Bool.{Bool, true, false, cond}
 use mathlib.Core.List.{List}
 use Prim.Native.Nat.{ℕ, _<_}
 use borrow.Author.Tests.{ltb-true}
 use lib.Dec.{ltb}
 use lib.ListN.{length, getD, set, length-set}
 use Rattle.text.specs.Logic.{cond-cases, clash}
-use Rattle.text.specs.Answers.{Answer, gives, refuses, andThen}
-use Rattle.packet.specs.declared.Fields.{Fields}
+use Rattle.text.specs.Answers.{gives, refuses, andThen}
 use Rattle.packet.specs.Packet.{packetOf}
 use Rattle.events.specs.declared.Entry.{Entry}
 use Rattle.events.specs.declared.New.{New}
 use Rattle.events.specs.declared.Refusal.{Refusal}
 use Rattle.events.specs.declared.Refusal.the-variants.{NotAbove, Full}
 use Rattle.events.specs.declared.checks.Checked.{Checked}
-use Rattle.events.specs.declared.checks.Checked.the-variants as checked
+use Rattle.events.specs.declared.checks.Checked.the-variants as passed
 use Rattle.events.specs.declared.plans.Candidates.{Candidates}
 use Rattle.events.specs.declared.plans.Plan.{Plan}
 use Rattle.events.specs.declared.plans.Plan.the-variants.{Store, Refused}
-use Rattle.events.specs.Table.{blank, indexOf, freeIndex, positionOf, newOf, renewed, fresh, Outcome, outcome, again, anew, tableOutcome, isClockOutOfRange, isListed, answered, received, refusalNumber}
-use Rattle.events.specs.Steps.{checkedFields, checkedPacket, checkedAnswer, scanned, positionIn, decided}
+use Rattle.events.specs.Table.{blank, indexOf, freeIndex, positionOf, renewed, fresh, Outcome, outcome, again, anew, tableOutcome, checked, answered, received, refusalNumber}
+use Rattle.events.specs.Steps.{checkedAnswer, scanned, positionIn, decided}
 
 -- ---- where an event stands
 
@@ -78,39 +77,18 @@ store-within s n new =
     (λ _. cond-cases (Within n) (ltb (s .free) n) _ _
     (λ t i x e. let q : s .free ≡ i = cc in rw (← q) (ltb-true (s .free) n t)) (λ _ i x e. clash (cc)))
 
--- ---- the checks
+-- ---- what is received, by what was checked
 
--- what is received, by what the checks come to
-abbrev afterChecks : Answer New → List Entry → Outcome
-afterChecks (gives new) es = tableOutcome new es
-afterChecks (refuses n at) es = outcome (refuses n at) es
+module _ (es : List Entry) (p keys : List ℕ) (verdict : Bool) (clock : ℕ) (c : Checked) (e : checkedAnswer c ≡ andThen (packetOf p) (checked keys verdict clock)) where
+  pub received-is : answered es (checkedAnswer c) ≡ received es p keys verdict clock
+  unfolding received
+  received-is = ap (answered es) e
 
-module _ (keys : List ℕ) (verdict : Bool) (clock : ℕ) (es : List Entry) where
-  answered-cases : (f : Fields) (t u w : Bool)
-      → cond t (outcome (refuses 12 0) es) (cond u (outcome (refuses 8 0) es) (cond w (outcome (refuses 9 0) es) (tableOutcome (newOf clock f) es)))
-      ≡ afterChecks (cond t (refuses 12 0) (cond u (refuses 8 0) (cond w (refuses 9 0) (gives (newOf clock f))))) es
-  answered-cases f true u w = refl
-  answered-cases f false true w = refl
-  answered-cases f false false true = refl
-  answered-cases f false false false = refl
+  pub received-passed : (new : New) → c ≡ passed.Passed new → tableOutcome new es ≡ received es p keys verdict clock
+  received-passed new q = ap (λ (x : Checked). answered es (checkedAnswer x)) (sym q) ∙ received-is
 
-  answered-is : (q : Answer Fields) → answered keys verdict clock es q ≡ afterChecks (andThen q (checkedFields keys verdict clock)) es
-  unfolding checkedFields
-  answered-is (refuses n at) = refl
-  answered-is (gives f) = answered-cases f (isClockOutOfRange clock) (not (isListed keys (f .key))) (not verdict)
-
-  -- the checks, then the table's own
-  received-is : (p : List ℕ) → received es p keys verdict clock ≡ afterChecks (checkedPacket keys verdict clock p) es
-  unfolding received checkedPacket
-  received-is p = answered-is (packetOf p)
-
-  -- by what was checked
-  module _ (p : List ℕ) (c : Checked) (e : checkedAnswer c ≡ checkedPacket keys verdict clock p) where
-    pub received-passed : (new : New) → c ≡ checked.Passed new → tableOutcome new es ≡ received es p keys verdict clock
-    received-passed new q = ap (λ (x : Answer New). afterChecks x es) (sym (ap checkedAnswer q) ∙ e) ∙ sym (received-is p)
-
-    pub received-refused : (r : Refusal) → c ≡ checked.Refused r → outcome (refuses (refusalNumber r) 0) es ≡ received es p keys verdict clock
-    received-refused r q = ap (λ (x : Answer New). afterChecks x es) (sym (ap checkedAnswer q) ∙ e) ∙ sym (received-is p)
+  pub received-refused : (r : Refusal) → c ≡ passed.Refused r → outcome (refuses (refusalNumber r) 0) es ≡ received es p keys verdict clock
+  received-refused r q = ap (λ (x : Checked). answered es (checkedAnswer x)) (sym q) ∙ received-is
 
 -- the table keeps its number of entries
 pub carried-length : (p : Plan) (es : List Entry) → length (carriedOut p es .entries) ≡ length es

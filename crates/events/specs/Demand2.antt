@@ -54,8 +54,8 @@ module _ (es : List Entry) (p keys : List ℕ) (verdict : Bool) (clock : ℕ) (a
 
   -- what an accepted packet has changed: its event's entry or, where it has none, the lowest free one
   pub data Stored (f : Fields) : Type 0 where
-    known : (i : ℕ) → FirstAt (isOf (f .key) (f .event)) es i → Known f i → Stored f
-    new : (i : ℕ) → NoneOf (isOf (f .key) (f .event)) es → New f i → Stored f
+    inEntry : (i : ℕ) → FirstAt (isOf (f .key) (f .event)) es i → Known f i → Stored f
+    inFree : (i : ℕ) → NoneOf (isOf (f .key) (f .event)) es → New f i → Stored f
 
   pub record Demand2 : Type 0 where
     -- "While an event has an entry, a packet that passes every earlier check, CANCEL included, .."

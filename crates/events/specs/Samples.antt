@@ -8,7 +8,7 @@ use Rattle.text.specs.Answers.{gives, refuses, giving}
 use Rattle.packet.specs.BigEndian.{bigEndianFrom, numberOf}
 use Rattle.packet.specs.Packet.{flag, coordinate, fieldsOf, lastingOf, packetOf}
 use Rattle.events.specs.declared.Entry.{Entry}
-use Rattle.events.specs.Table.{firstIndex, again, tableOutcome, isListed, received}
+use Rattle.events.specs.Table.{firstIndex, again, tableOutcome, isListed, checked, received}
 
 -- a number in `width` bytes
 abbrev pub bytesOf : (width n : ℕ) → List ℕ
@@ -30,7 +30,7 @@ pub sample-stored :
     (received (stored 9 ∷ []) (packetWith 9 60) (21 ∷ []) true 0 .answer ≡ refuses 10 0)
     × (received (stored 9 ∷ []) (packetWith 10 60) (21 ∷ []) true 0 .answer ≡ gives tt)
     × (received (stored 65_535 ∷ []) (packetWith 65_535 60) (21 ∷ []) true 0 .answer ≡ refuses 10 0)
-unfolding bigEndianFrom numberOf flag coordinate fieldsOf packetOf firstIndex again tableOutcome isListed received
+unfolding bigEndianFrom numberOf flag coordinate fieldsOf packetOf firstIndex again tableOutcome isListed checked received
 sample-stored = (refl, refl, refl)
 
 -- 31,536,000 s are taken; 31,536,001: refusal 7

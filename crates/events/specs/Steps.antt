@@ -1,13 +1,11 @@
 -- What the functions of src/ hand each other on the way to `received`: the checks before the table, what one pass over
 -- the entries finds, and what is then stored.
-use mathlib.Core.Bool.{Bool, cond, not}
+use mathlib.Core.Bool.{Bool, cond}
 use mathlib.Core.List.{List}
 use Prim.Native.Nat.{ℕ}
 use lib.Dec.{ltb}
 use lib.ListN.{getD}
-use Rattle.text.specs.Answers.{Answer, gives, refuses, andThen}
-use Rattle.packet.specs.declared.Fields.{Fields}
-use Rattle.packet.specs.Packet.{packetOf}
+use Rattle.text.specs.Answers.{Answer, gives, refuses}
 use Rattle.events.specs.declared.Entry.{Entry}
 use Rattle.events.specs.declared.New.{New}
 use Rattle.events.specs.declared.Refusal.the-variants.{NotAbove, Full}
@@ -18,19 +16,9 @@ use Rattle.events.specs.declared.Position.the-variants.{At, Nowhere}
 use Rattle.events.specs.declared.plans.Candidates.{Candidates}
 use Rattle.events.specs.declared.plans.Plan.{Plan}
 use Rattle.events.specs.declared.plans.Plan.the-variants.{Store, Refused}
-use Rattle.events.specs.Table.{isOf, isFree, blank, indexOf, freeIndex, newOf, renewed, fresh, isClockOutOfRange, isListed, refusalNumber}
+use Rattle.events.specs.Table.{isOf, isFree, blank, indexOf, freeIndex, renewed, fresh, refusalNumber}
 
 -- ---- the checks before the table
-
-unfoldable pub checkedFields : List ℕ → Bool → ℕ → Fields → Answer New
-checkedFields keys verdict clock f =
-    cond (isClockOutOfRange clock) (refuses 12 0)
-    (cond (not (isListed keys (f .key))) (refuses 8 0)
-    (cond (not verdict) (refuses 9 0)
-    (gives (newOf clock f))))
-
-unfoldable pub checkedPacket : List ℕ → Bool → ℕ → List ℕ → Answer New
-checkedPacket keys verdict clock p = andThen (packetOf p) (checkedFields keys verdict clock)
 
 abbrev pub checkedAnswer : Checked → Answer New
 checkedAnswer (checked.Passed new) = gives new

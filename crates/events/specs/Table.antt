@@ -4,7 +4,7 @@ use mathlib.Core.List.{List, [], _∷_}
 use Prim.Native.Nat.{ℕ, suc, _+_}
 use lib.Dec.{eqb, ltb}
 use lib.ListN.{length, getD, set}
-use Rattle.text.specs.Answers.{Answer, gives, refuses}
+use Rattle.text.specs.Answers.{Answer, gives, refuses, andThen}
 use Rattle.packet.specs.declared.Fields.{Fields}
 use Rattle.packet.specs.Packet.{packetOf, faultNumber}
 use Rattle.events.specs.declared.Entry.{Entry}
@@ -110,17 +110,20 @@ unfoldable pub isListed : List ℕ → ℕ → Bool
 isListed [] key = false
 isListed (k ∷ ks) key = cond (eqb k key) true (isListed ks key)
 
--- after the packet's own checks
-abbrev pub answered : List ℕ → Bool → ℕ → List Entry → Answer Fields → Outcome
-answered keys verdict clock es (refuses n at) = outcome (refuses n at) es
-answered keys verdict clock es (gives f) =
-    cond (isClockOutOfRange clock) (outcome (refuses 12 0) es)
-    (cond (not (isListed keys (f .key))) (outcome (refuses 8 0) es)
-    (cond (not verdict) (outcome (refuses 9 0) es)
-    (tableOutcome (newOf clock f) es)))
+-- 12, 8 and 9, after the packet's own
+unfoldable pub checked : List ℕ → Bool → ℕ → Fields → Answer New
+checked keys verdict clock f =
+    cond (isClockOutOfRange clock) (refuses 12 0)
+    (cond (not (isListed keys (f .key))) (refuses 8 0)
+    (cond (not verdict) (refuses 9 0)
+    (gives (newOf clock f))))
+
+abbrev pub answered : List Entry → Answer New → Outcome
+answered es (gives new) = tableOutcome new es
+answered es (refuses n at) = outcome (refuses n at) es
 
 unfoldable pub received : List Entry → List ℕ → List ℕ → Bool → ℕ → Outcome
-received es p keys verdict clock = answered keys verdict clock es (packetOf p)
+received es p keys verdict clock = answered es (andThen (packetOf p) (checked keys verdict clock))
 
 abbrev pub refusalNumber : Refusal → ℕ
 refusalNumber ClockOutOfRange = 12

@@ -5,8 +5,10 @@ use packet::Fields;
 use packet::Packet;
 ghost use mathlib.Core.Path.{_≡_};
 ghost use Prim.Native.Nat.{_≤_};
-ghost use Rattle.events.specs.Table.{newOf, isListed};
-ghost use Rattle.events.specs.Steps.{checkedFields, checkedPacket, checkedAnswer};
+ghost use Rattle.text.specs.Answers.{andThen};
+ghost use Rattle.packet.specs.Packet.{packetOf};
+ghost use Rattle.events.specs.Table.{newOf, isListed, checked};
+ghost use Rattle.events.specs.Steps.{checkedAnswer};
 
 // What the checks come to: what the packet stores, or why it is refused.
 pub enum Checked {
@@ -47,7 +49,7 @@ fn new_of(clock: u64, fields: Fields) -> New
 
 // The checks of a packet's fields.
 fn check_fields(fields: Fields, keys: &[u32], verdict: bool, clock: u64) -> Checked
-    ensures { λ r. ⌜ checkedAnswer r ≡ checkedFields (now (keys .entry)) verdict clock fields ⌝ }
+    ensures { λ r. ⌜ checkedAnswer r ≡ checked (now (keys .entry)) verdict clock fields ⌝ }
 {
     if LAST_CLOCK < clock {
         return Checked::Refused(Refusal::ClockOutOfRange);
@@ -64,7 +66,7 @@ fn check_fields(fields: Fields, keys: &[u32], verdict: bool, clock: u64) -> Chec
 
 // A packet's own checks, then those of its fields.
 pub fn check(packet: &[u8], keys: &[u32], verdict: bool, clock: u64) -> Checked
-    ensures { λ r. ⌜ checkedAnswer r ≡ checkedPacket (now (keys .entry)) verdict clock (now (packet .entry)) ⌝ }
+    ensures { λ r. ⌜ checkedAnswer r ≡ andThen (packetOf (now (packet .entry))) (checked (now (keys .entry)) verdict clock) ⌝ }
 {
     let read = packet::read_packet(packet);
     match read {

@@ -2,21 +2,21 @@
 use borrow.Author.Tests.{lt-ltb, le-ltb}
 use mathlib.Core.Bool.{not}
 use mathlib.Core.Path.{sym, _∙_, ap}
-use Rattle.events.specs.Steps.{checkedFields}
+use Rattle.events.specs.Table.{checked}
 use borrow.Author.Needs.{needs}
 use Rattle.events.proofs.checks.check_fields.Statement.{statement}
 use Rattle.events.proofs.checks.check_fields.Tie as tie
 
 returns : tie.Need-returns
-unfolding checkedFields
+unfolding checked
 returns c = simp (lt-ltb _ _ (c .if1 .taken))
 
 returns-2 : tie.Need-returns-2
-unfolding checkedFields
+unfolding checked
 returns-2 c = simp (le-ltb _ _ (c .before .before .if1 .left), sym (ap not (c .before .«is-listed» .ensures)) ∙ c .if2 .taken)
 
 returns-3 : tie.Need-returns-3
-unfolding checkedFields
+unfolding checked
 returns-3 c =
     simp (
       le-ltb _ _ (c .before .before .before .if1 .left),
@@ -25,7 +25,7 @@ returns-3 c =
     )
 
 returns-4 : tie.Need-returns-4
-unfolding checkedFields
+unfolding checked
 returns-4 c =
     simp (
       c .«new-of» .ensures,
