@@ -191,11 +191,57 @@ infoComes c s =
     ((leb (firstState class.info) s && ltb s (firstState class.info + indexIn c 1 (particles class.info)))
     || (ltb (indexIn class.eventCode 1 (particles class.info)) (indexIn c 1 (particles class.info)) && eqb (containerOf s) class.eventCode))
 
+-- "the sequence and counts are those of 007's schema": each stands once in the alert
+pub record AlertOnce (es : List Element) : Type 0 where
+  pub identifier : many class.identifier (alertOf es) ≡ 1
+  pub sender : many class.sender (alertOf es) ≡ 1
+  pub sent : many class.sent (alertOf es) ≡ 1
+  pub status : many class.status (alertOf es) ≡ 1
+  pub msgType : many class.msgType (alertOf es) ≡ 1
+  pub scope : many class.scope (alertOf es) ≡ 1
+
+-- once in each part, the two times once at most
+pub record PartOnce (n : ℕ) (es : List Element) : Type 0 where
+  pub urgency : many class.urgency (partOf n es) ≡ 1
+  pub severity : many class.severity (partOf n es) ≡ 1
+  pub certainty : many class.certainty (partOf n es) ≡ 1
+  pub effective : many class.effective (partOf n es) ≤ 1
+  pub expires : many class.expires (partOf n es) ≤ 1
+
 module _ (l : List ℕ) (es : List Element) (d : documentOf l ≡ gives es) where
-  -- once in the alert
-  in-alert-once : (c : ℕ) → class.lastContainer < c → Bounded c (alertComes c) (alertComes c) → alertComes c over ≡ 0 → alertComes c before ≡ 1 → many c (alertOf es) ≡ 1
+  in-alert-once :
+      (c : ℕ) → class.lastContainer < c → Bounded c (alertComes c) (alertComes c) → alertComes c over ≡ 0 → alertComes c before ≡ 1
+      → many c (alertOf es) ≡ 1
   in-alert-once c h t o b = let r = alert-count c h (alertComes c) (alertComes c) t o l es d in omega (arith, r, b)
 
-  pub identifier-once : many class.identifier (alertOf es) ≡ 1
+  pub alert-once : AlertOnce es
   unfolding nextOf containerOf
-  identifier-once = in-alert-once class.identifier (omega arith) tt refl refl
+  alert-once = record {
+    identifier = in-alert-once class.identifier (omega arith) tt refl refl;
+    sender = in-alert-once class.sender (omega arith) tt refl refl;
+    sent = in-alert-once class.sent (omega arith) tt refl refl;
+    status = in-alert-once class.status (omega arith) tt refl refl;
+    msgType = in-alert-once class.msgType (omega arith) tt refl refl;
+    scope = in-alert-once class.scope (omega arith) tt refl refl;
+  }
+
+  module _ (n : ℕ) (some : 1 ≤ n) (there : n ≤ total es) where
+    in-part-once :
+        (c : ℕ) → class.lastContainer < c → Bounded c (infoComes c) (infoComes c) → infoComes c over ≡ 0 → infoComes c (firstState class.info) ≡ 1
+        → many c (partOf n es) ≡ 1
+    in-part-once c h t o b = let r = part-count c h (infoComes c) (infoComes c) t o l es d n some there in omega (arith, r, b)
+
+    in-part-most :
+        (c : ℕ) → class.lastContainer < c → Bounded c (λ (s : ℕ). 0) (infoComes c) → infoComes c (firstState class.info) ≡ 1
+        → many c (partOf n es) ≤ 1
+    in-part-most c h t b = let r = part-count c h (λ (s : ℕ). 0) (infoComes c) t refl l es d n some there in omega (arith, r, b)
+
+    pub part-once : PartOnce n es
+    unfolding nextOf containerOf
+    part-once = record {
+      urgency = in-part-once class.urgency (omega arith) tt refl refl;
+      severity = in-part-once class.severity (omega arith) tt refl refl;
+      certainty = in-part-once class.certainty (omega arith) tt refl refl;
+      effective = in-part-most class.effective (omega arith) tt refl;
+      expires = in-part-most class.expires (omega arith) tt refl;
+    }
