@@ -33,7 +33,7 @@ many c (x ∷ xs) = boolByte (isText c x) + many c xs
 -- ---- along the elements of a part
 
 -- the class by which an element is looked up in the table
-abbrev classOf : Element → ℕ
+abbrev pub classOf : Element → ℕ
 classOf (opened c p) = c
 classOf (text c p t) = c
 classOf (closed c) = 0
