@@ -139,8 +139,8 @@ module _ (s : List ℕ) (a b c d : ℕ) (ea : a ≡ 0 + spaces (drop 0 s)) (eb :
         reached h q = omega arith
 
     pub text-two :
-        e ≡ length s → (p : Answer Place) (r : Answer ℕ) (o : Answer (Place × ℕ)) → p ≡ pairOf (take (b - a) (drop a s)) → r ≡ radiusOf (take (d - c) (drop c s))
-        → o ≡ circleFrom p r → o ≡ circleOf s
+        e ≡ length s → (p : Answer Place) (r : Answer ℕ) (o : Answer (Place × ℕ)) → p ≡ pairOf (take (b - a) (drop a s))
+        → r ≡ radiusOf (take (d - c) (drop c s)) → o ≡ circleFrom p r → o ≡ circleOf s
     text-two q p r o ep er eo =
         let z : dropSpace (after (after s)) ≡ [] = sym from-e ∙ drop-of-length-le s {i = e} (omega arith) in
         eo ∙ rw (ep, er, first-is, second-is) (sym (circle-two s z))

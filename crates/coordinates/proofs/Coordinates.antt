@@ -107,21 +107,6 @@ module _ (limit i : ℕ) (l : List ℕ) where
   unfolding coordinateAt
   not-measured q = second-arm _ _ _ (isCoordinate limit l) q (λ p. fault≢value _ _ (sym p))
 
-  -- the same coordinate, in a text that stands at offset j
-  pub coordinate-moved : (j : ℕ) (z : ℤ) (e : ℕ) → coordinateAt limit i l ≡ Value z e → coordinateAt limit j l ≡ Value z (j + (e - i))
-  unfolding coordinateAt
-  coordinate-moved j z e q =
-      let m = measured z e q in
-      let k : j + coordinateLength l ≡ j + (e - i) = omega (arith, m .end) in
-      rw (m .is, m .value, k)
-
-  pub fault-moved : (j : ℕ) → coordinateAt limit i l ≡ Fault → coordinateAt limit j l ≡ Fault
-  unfolding coordinateAt
-  fault-moved j q = rw (not-measured q)
-
-  pub coordinate-start : (z : ℤ) (e : ℕ) → coordinateAt limit i l ≡ Value z e → i ≤ e
-  coordinate-start z e q = omega (arith, measured z e q .end)
-
 -- ---- a coordinate that is the whole text
 
 module _ (limit : ℕ) (l : List ℕ) where

@@ -56,29 +56,22 @@ degreesOf limit l = cond (isCoordinate limit l && eqb (coordinateLength l) (leng
 
 -- ---- "A pair is latitude, comma, longitude"
 
-abbrev pub withLongitude : ℤ → Coordinate → LeadingPair
-withLongitude y (Value x e) = leading.At (record { lat = y; lon = x }) e
-withLongitude y Fault = leading.Fault
+abbrev pub afterComma : List ℕ → List ℕ
+afterComma l = drop (coordinateLength l + 1) l
 
--- k bytes are the latitude y
-abbrev pub withLatitude : List ℕ → Coordinate → LeadingPair
-withLatitude l (Value y k) =
-    cond (leads (code ",") (drop k l)) (withLongitude y (coordinateAt longitudeLimit (k + 1) (drop (k + 1) l))) leading.Fault
-withLatitude l Fault = leading.Fault
+abbrev pub isPair : List ℕ → Bool
+isPair l = isCoordinate latitudeLimit l && leads (code ",") (drop (coordinateLength l) l) && isCoordinate longitudeLimit (afterComma l)
 
--- the pair that leads a text, and how many bytes it has
-abbrev pub leadingPair : List ℕ → LeadingPair
-leadingPair l = withLatitude l (coordinateAt latitudeLimit 0 l)
+abbrev pub pairValue : List ℕ → Place
+pairValue l = record { lat = coordinateValue l; lon = coordinateValue (afterComma l) }
 
--- the same, in a text that stands at offset i: the pair and the offset after it
-abbrev pub standingAt : ℕ → LeadingPair → LeadingPair
-standingAt i (leading.At p n) = leading.At p (i + n)
-standingAt i leading.Fault = leading.Fault
+abbrev pub pairLength : List ℕ → ℕ
+pairLength l = coordinateLength l + 1 + coordinateLength (afterComma l)
 
--- the pair that a whole text of n bytes writes
-abbrev pub wholePair : ℕ → LeadingPair → Answer Place
-wholePair n (leading.At p e) = cond (eqb e n) (gives p) (refuses 22 0)
-wholePair n leading.Fault = refuses 22 0
+-- the pair that leads the text l, which stands at offset i
+unfoldable pub pairAt : ℕ → List ℕ → LeadingPair
+pairAt i l = cond (isPair l) (leading.At (pairValue l) (i + pairLength l)) leading.Fault
 
+-- the pair that a whole text writes
 unfoldable pub pairOf : List ℕ → Answer Place
-pairOf l = wholePair (length l) (leadingPair l)
+pairOf l = cond (isPair l && eqb (pairLength l) (length l)) (gives (pairValue l)) (refuses 22 0)

@@ -6,7 +6,7 @@ ghost use Prim.Native.Nat.{_≤_};
 ghost use lib.ListN.{drop};
 ghost use Rattle.coordinates.specs.Decimal.{radiusOf};
 ghost use Rattle.coordinates.specs.Answers.{degreesAnswer, pairAnswer, radiusAnswer};
-ghost use Rattle.coordinates.specs.Place.{latitudeLimit, longitudeLimit, within, inRange, degreesOf, pairOf, leadingPair, standingAt};
+ghost use Rattle.coordinates.specs.Place.{latitudeLimit, longitudeLimit, within, inRange, degreesOf, pairAt, pairOf};
 
 mod scan;
 
@@ -142,7 +142,7 @@ pub fn read_pair(text: &[u8]) -> Pair
 
 // The place that stands from `at` on: latitude, comma, longitude. What stands after it isn't looked at.
 pub fn leading_pair(text: &[u8], at: usize) -> LeadingPair
-    ensures { λ r. ⌜ r ≡ standingAt at (leadingPair (drop at (now (text .entry)))) ⌝ }
+    ensures { λ r. ⌜ r ≡ pairAt at (drop at (now (text .entry))) ⌝ }
 {
     let y = scan::coordinate_at(text, at, LATITUDE_LIMIT);
     let Coordinate::Value(lat, comma) = y else {

@@ -20,7 +20,7 @@ nameRule t = cond (ltb 128 (length t)) 14 (cond (leb 1 (length t) && allNameByte
 unfoldable pub codeRule : ℕ → List ℕ → ℕ
 codeRule c t = cond (eqb (codeOf c t) 0) 17 0
 
--- the number of the refusal where what a text means is asked for: 18, "time", and 22, "polygon or circle text"
+-- the number of a refusal, 0 for an answer that is given: 18 is "time", 22 "polygon or circle text"
 abbrev pub numberOf : {A : Type 0} → Answer A → ℕ
 numberOf (gives x) = 0
 numberOf (refuses n i) = n

@@ -10,5 +10,5 @@ pub print-time-spec : {M : Type 1} → statement M
 print-time-spec =
     tie.close
     (tie.spec (λ c κs. search needs) (λ c. search needs) (λ c κs. search needs)
-    (λ c κs. instant-small _ _ (sym (c .before .before .before .before .read-time .ensures) ∙ ap timeAnswer (c .before .before .t .given .1))) (λ c κs. search needs)
-    (λ c. search needs) (λ c. search needs) (λ c κs. search needs) (λ c. search needs) (λ c. search needs))
+    (λ c κs. instant-small _ _ (sym (c .before .before .before .before .read-time .ensures) ∙ ap timeAnswer (c .before .before .t .given .1)))
+    (λ c κs. search needs) (λ c. search needs) (λ c. search needs) (λ c κs. search needs) (λ c. search needs) (λ c. search needs))
