@@ -4,15 +4,13 @@ use mathlib.Core.Bool.{true, cond, false≢true}
 use mathlib.Core.List.{List, [], _∷_, _++_, append-assoc, append-nil}
 use Prim.Native.Nat.{ℕ, zero, suc, _+_, _≤_, _<_}
 use native.Mathlib.Omega.{arith}
-use borrow.Author.Tests.{eqb-true, eq-eqb}
+use borrow.Author.Tests.{eq-eqb}
 use lib.Dec.{eqb}
 use lib.ListN.{length, length-append}
-use Rattle.text.specs.Logic.{by-test}
 use Rattle.text.specs.Answers.{gives}
 use Rattle.schema.specs.Classes as class
-use Rattle.schema.specs.Sequences.{Particle, particles, containerOf, nextOf, before, over, follows, complete}
-use Rattle.schema.specs.Matching.{Matches}
-use Rattle.schema.proofs.Matching.{left, left-all, follows-matches, matches-follows, complete-matches, matches-complete}
+use Rattle.schema.specs.Sequences.{Particle, particles, Matches, containerOf, nextOf, before, over, follows, complete}
+use Rattle.schema.proofs.Left.{left, left-all, follows-matches, matches-follows, complete-matches, matches-complete}
 use Rattle.schema.proofs.States.{state, Among, afterEnd, is-sequence, container-is, known, leaf-next, container-next, among-next, back, may-follow, end-next, may-end, when-over, among-first}
 use Rattle.document.specs.Elements.{Element, opened, text, closed}
 use Rattle.document.specs.Documents.{documentOf}
