@@ -102,7 +102,6 @@ placed m c e =
     let q = or-none (eqb c 0) (not (eqb (m .leaf) 0)) (p .0) in
     record { known = eqb-false c 0 (q .0); outside = not-false (eqb (m .leaf) 0) (q .1); follows = eqb-false (nextOf (m .state) c) 0 (p .1) }
 
-
 module _ (l : List ℕ) (m : Mode) where
   cases : (t : Bool) (x y : Step) → (t ≡ true → SoundStep l m x) → (t ≡ false → SoundStep l m y) → SoundStep l m (cond t x y)
   cases = cond-cases (SoundStep l m)

@@ -99,8 +99,8 @@ module _ (l : List ℕ) (m : Mode) (s : ℕ) (d : s ≡ m .state → ⊥) where
   inside c p n = (
     λ e. n (ap (λ (x : ℕ). nextOf x c) e ∙ over-none c),
     λ e.
-    let z = only-alert c (λ q. n (ap (λ (x : ℕ). nextOf x c) e ∙ q)) .0 in
-    d (e ∙ sym (alert-before (m .state) (λ q. p .follows (ap (nextOf (m .state)) z ∙ q)))),
+        let z = only-alert c (λ q. n (ap (λ (x : ℕ). nextOf x c) e ∙ q)) .0 in
+        d (e ∙ sym (alert-before (m .state) (λ q. p .follows (ap (nextOf (m .state)) z ∙ q)))),
   )
 
   -- behind a test that is false where the class may follow
