@@ -3,17 +3,18 @@ use mathlib.Core.Path.{_≡_, refl, subst}
 use mathlib.Core.List.{List, [], _∷_, _++_}
 use Prim.Native.Nat.{ℕ, zero, suc, _≤_}
 use native.Mathlib.Omega.{arith}
-use lib.Dec.{T}
 use lib.ListN.{length}
+use types.Run.{OneOf, hit}
 use Rattle.text.specs.Answers.{Answer, gives, refuses}
 use Rattle.document.specs.declared.Mode.{Mode}
 use Rattle.document.specs.declared.Event.{Event}
+use Rattle.document.specs.declared.Event.the-variants.{Silent}
 use Rattle.document.specs.declared.Step.{Step}
 use Rattle.document.specs.declared.Step.the-variants.{Next, Done, Refused}
 use Rattle.document.specs.Elements.{Element, given}
 use Rattle.document.specs.Constructs.{stepOf}
-use Rattle.document.specs.Documents.{elementsOf, begin, after, run, readFrom, documentOf}
-use Rattle.document.proofs.Numbers.{isNumber}
+use Rattle.document.specs.Documents.{elementsOf, begin, firstStep, after, run, readFrom, documentOf}
+use Rattle.document.proofs.Numbers.{documentNumbers}
 use Rattle.document.proofs.Events.{Refusal, refusal}
 use Rattle.document.proofs.Runs.{first-holds}
 
@@ -42,20 +43,22 @@ module _ (l : List ℕ) (Q : Mode → List Element → Type 0)
 
   -- of the whole document, whose first construct may stand anywhere
   abbrev DocumentHolds : Answer (List Element) → Type 0
-  DocumentHolds (gives es) = (at : ℕ) × Q (begin at) es
+  DocumentHolds (gives es) = (at : ℕ) × ((firstStep l ≡ Next (begin at) Silent) × Q (begin at) es)
   DocumentHolds (refuses n p) = Refusal l n p
 
   document-holds : DocumentHolds (documentOf l)
   unfolding documentOf
   document-holds =
-      first-holds l (λ (r : Step). DocumentHolds (after l (readFrom l) r)) (λ n p h. h)
-      (λ at. go at (readFrom l (begin at)) (run-holds (suc (length l)) (begin at)))
+      first-holds l (λ (r : Step). firstStep l ≡ r → DocumentHolds (after l (readFrom l) r)) (λ n p h q. h)
+      (λ at q. go at q (readFrom l (begin at)) (run-holds (suc (length l)) (begin at)))
+      refl
     where
-      go : (at : ℕ) (v : Answer (List Element)) → VerdictHolds (begin at) v → DocumentHolds (given [] v)
-      go at (gives es) h = (at, h)
-      go at (refuses n p) h = h
+      go :
+          (at : ℕ) → firstStep l ≡ Next (begin at) Silent → (v : Answer (List Element)) → VerdictHolds (begin at) v → DocumentHolds (given [] v)
+      go at q (gives es) h = (at, (q, h))
+      go at q (refuses n p) h = h
 
-  pub accepted-holds : (es : List Element) → documentOf l ≡ gives es → (at : ℕ) × Q (begin at) es
+  pub accepted-holds : (es : List Element) → documentOf l ≡ gives es → (at : ℕ) × ((firstStep l ≡ Next (begin at) Silent) × Q (begin at) es)
   accepted-holds es d = subst DocumentHolds d document-holds
 
 document-refusal : (l : List ℕ) (n p : ℕ) → documentOf l ≡ refuses n p → Refusal l n p
@@ -68,8 +71,8 @@ pub offset-within : (l : List ℕ) (n p : ℕ) → documentOf l ≡ refuses n p 
 offset-within l n p d = document-refusal l n p d .0
 
 -- its number is one of 14 to 19 and 22
-pub refusal-numbers : (l : List ℕ) (n p : ℕ) → documentOf l ≡ refuses n p → T (isNumber n)
-refusal-numbers l n p d = document-refusal l n p d .1
+pub refusal-numbers : (l : List ℕ) (n p : ℕ) → documentOf l ≡ refuses n p → OneOf documentNumbers n
+refusal-numbers l n p d = hit documentNumbers n (document-refusal l n p d .1)
 
 -- ---- every element
 
@@ -89,4 +92,4 @@ module _ (P : Element → Type 0) where
   accepted-every l each es q =
       accepted-holds l (λ (m : Mode) (xs : List Element). Every xs) (λ m p. tt)
       (λ m m′ e xs p h. every-append (elementsOf l e) xs (each m m′ e p) h)
-      es q .1
+      es q .1 .1

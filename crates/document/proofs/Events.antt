@@ -5,8 +5,8 @@ use mathlib.Core.List.{List, []}
 use Prim.Native.Nat.{ℕ, zero, suc, _+_, _≤_, _<_}
 use Prim.Native.Char.{code}
 use native.Mathlib.Omega.{arith}
-use borrow.Author.Tests.{leb-true, leb-false, eqb-true}
-use lib.Dec.{T, eqb, leb}
+use borrow.Author.Tests.{leb-true, leb-false, eqb-true, eqb-false, not-false}
+use lib.Dec.{eqb, leb}
 use lib.ListN.{length, getD, drop}
 use Rattle.text.specs.Ascii.{ascii}
 use Rattle.text.specs.Logic.{cond-cases, and-left, eql}
@@ -40,7 +40,7 @@ use Rattle.document.specs.Elements.{starts, total}
 use Rattle.document.specs.Tags.{moved, maxInfos, afterPrefix, nameIn, ruled, textStep, enterStep, isMisplaced, openStep, emptyStep, otherStep, boundStep, alertStep, isAlert, startStep, closeStep, isRightEnd, endStep, endedStep, tagEndStep, tagStep}
 use Rattle.document.specs.Constructs.{commentStep, constructStep, afterSpace, stepOf}
 use Rattle.document.specs.Documents.{elementsOf}
-use Rattle.document.proofs.Numbers.{isNumber, rule-number}
+use Rattle.document.proofs.Numbers.{IsNumber, rule-number}
 
 -- ---- what holds of a step
 
@@ -62,7 +62,7 @@ pub record Whole (l : List ℕ) (c from until : ℕ) : Type 0 where
 -- what holds of an event in a state
 abbrev pub SoundEvent : List ℕ → ℕ → Event → Type 0
 SoundEvent l state Silent = Prim.Unit
-SoundEvent l state (Opened c p) = c ≤ class.lastContainer
+SoundEvent l state (Opened c p) = (0 < c) × (c ≤ class.lastContainer)
 SoundEvent l state (Text c from until) = Whole l c from until
 SoundEvent l state (Closed c) = c ≡ containerOf state
 
@@ -75,9 +75,9 @@ pub record Onward (l : List ℕ) (m m′ : Mode) (e : Event) : Type 0 where
   pub limited : m .infos ≤ maxInfos → m′ .infos ≤ maxInfos
   pub event : SoundEvent l (m .state) e
 
--- what holds of a refusal: its offset lies in the document or at its length
+-- what holds of a refusal: its offset lies in the document or at its length, and its number is in the list
 abbrev pub Refusal : List ℕ → (number offset : ℕ) → Type 0
-Refusal l n p = (p ≤ length l) × T (isNumber n)
+Refusal l n p = (p ≤ length l) × IsNumber n
 
 abbrev pub SoundStep : List ℕ → Mode → Step → Type 0
 SoundStep l m (Next m′ e) = Onward l m m′ e
@@ -85,6 +85,22 @@ SoundStep l m Done = m .state ≡ over
 SoundStep l m (Refused n p) = Refusal l n p
 
 -- ---- the walk
+
+pub or-none : (a b : Bool) → a || b ≡ false → (a ≡ false) × (b ≡ false)
+or-none true b e = absurd (false≢true (sym e))
+or-none false b e = (refl, e)
+
+-- an element that is not misplaced
+pub record Placed (m : Mode) (c : ℕ) : Type 0 where
+  pub known : c ≡ 0 → ⊥
+  pub outside : eqb (m .leaf) 0 ≡ true
+  pub follows : nextOf (m .state) c ≡ 0 → ⊥
+
+pub placed : (m : Mode) (c : ℕ) → isMisplaced m c ≡ false → Placed m c
+placed m c e =
+    let p = or-none (eqb c 0 || not (eqb (m .leaf) 0)) (eqb (nextOf (m .state) c) 0) e in
+    let q = or-none (eqb c 0) (not (eqb (m .leaf) 0)) (p .0) in
+    record { known = eqb-false c 0 (q .0); outside = not-false (eqb (m .leaf) 0) (q .1); follows = eqb-false (nextOf (m .state) c) 0 (p .1) }
 
 module _ (l : List ℕ) (m : Mode) where
   cases : (t : Bool) (x y : Step) → (t ≡ true → SoundStep l m x) → (t ≡ false → SoundStep l m y) → SoundStep l m (cond t x y)
@@ -106,7 +122,7 @@ module _ (l : List ℕ) (m : Mode) (inside : m .at < length l) where
   ruled-sound leaf c from until zero g b r o k f =
       on l m until (nextOf (m .state) c) leaf (Text c from until) (omega arith) k refl refl
       (record { leaf = b; rule = sym r; ordered = o; inside = k; clean = f })
-  ruled-sound leaf c from until (suc n) g b r o k f = (omega arith, rw (← r) at (rule-number c (part l from until)))
+  ruled-sound leaf c from until (suc n) g b r o k f = (omega arith, rule-number c n (part l from until) r)
 
   text-sound :
       (c from : ℕ) → m .at < from → class.lastContainer < c → (r : Content) → texts.content l from ≡ r
@@ -117,7 +133,7 @@ module _ (l : List ℕ) (m : Mode) (inside : m .at < length l) where
   text-sound c from g b (content.Fault q) p = let k = fault-within l from q p in (omega arith, tt)
   text-sound c from g b content.Unended p = (omega arith, tt)
 
-  enter-sound : (c next : ℕ) → m .at < next → next ≤ length l → c ≤ class.lastContainer → SoundStep l m (enterStep m (nextOf (m .state) c) c next)
+  enter-sound : (c next : ℕ) → m .at < next → next ≤ length l → (0 < c) × (c ≤ class.lastContainer) → SoundStep l m (enterStep m (nextOf (m .state) c) c next)
   unfolding starts
   enter-sound c next g k b =
       cases l m (eqb c class.info) _ _
@@ -139,20 +155,16 @@ module _ (l : List ℕ) (m : Mode) (inside : m .at < length l) where
   open-sound c next g k =
       cases l m (isMisplaced m c) _ _ (λ e. (omega arith, tt)) λ e.
       cases l m (leb c class.lastContainer) _ _
-      (λ t. enter-sound c next g k (leb-true c class.lastContainer t))
+      (λ t. enter-sound c next g k (omega (arith, placed m c e .known), leb-true c class.lastContainer t))
       (λ t. text-sound c next g (leb-false c class.lastContainer t) (texts.content l next) refl)
 
   empty-sound : (c next : ℕ) → m .at < next → next ≤ length l → SoundStep l m (emptyStep m c next)
   unfolding emptyStep
   empty-sound c next g k =
       cases l m (isMisplaced m c || leb c class.lastContainer) _ _ (λ e. (omega arith, tt)) λ e.
-      ruled-sound 0 c next next (textRule c []) g (leb-false c class.lastContainer (or-right (isMisplaced m c) (leb c class.lastContainer) e))
+      ruled-sound 0 c next next (textRule c []) g (leb-false c class.lastContainer (or-none (isMisplaced m c) (leb c class.lastContainer) e .1))
       (ap (textRule c) (part-none l next next (omega arith))) (omega arith) k
       (λ i a b. absurd (omega arith))
-    where
-      or-right : (a b : Bool) → a || b ≡ false → b ≡ false
-      or-right true b e = absurd (false≢true (sym e))
-      or-right false b e = e
 
   other-sound : (n : ℕ) → m .at < n → (t : Tail) → tags.tail l n ≡ t → SoundStep l m (otherStep l m n t)
   other-sound n g (tail.Open next) p =
@@ -174,7 +186,7 @@ module _ (l : List ℕ) (m : Mode) (inside : m .at < length l) where
         follows = rw b;
         counts = omega arith;
         limited = λ f. f;
-        event = omega arith;
+        event = (omega arith, omega arith);
       })
       (λ e. (omega arith, tt))
 

@@ -5,5 +5,8 @@ pub mod Loops
 pub mod Accepted
 pub mod Sound
 pub mod Schema
+pub mod Nesting
+pub mod OtherStates
+pub mod Exact
 pub mod Prefixes
 pub mod Steps

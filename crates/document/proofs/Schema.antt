@@ -19,13 +19,20 @@ use Rattle.document.specs.Elements.{Element, opened, text, closed, start
 use Rattle.document.specs.Tags.{maxInfos}
 use Rattle.document.specs.Constructs.{stepOf}
 use Rattle.document.specs.Documents.{elementsOf, documentOf}
-use Rattle.document.specs.Following.{follow}
 use Rattle.document.proofs.Events.{stateAfter, SoundEvent, onward, ended}
 use Rattle.document.proofs.Loops.{starts-append}
 use Rattle.document.proofs.Accepted.{Every, accepted-holds}
 use Rattle.document.proofs.Sound.{Sorted, all-sorted}
 
--- ---- the sequences
+-- ---- the table along the elements
+
+-- the state after elements that start in a state; 0 as soon as one may not stand where it does,
+-- or an end is not that of the container it stands in or something is missing there
+unfoldable pub follow : ℕ → List Element → ℕ
+follow state [] = state
+follow state (opened c p ∷ es) = follow (nextOf state c) es
+follow state (text c p t ∷ es) = follow (nextOf state c) es
+follow state (closed c ∷ es) = cond (eqb c (containerOf state)) (follow (nextOf state 0) es) 0
 
 -- an event's element leads from the state before it to the state after it
 event-follows :
@@ -42,7 +49,7 @@ unfolding follow
 follows-schema l es d =
     accepted-holds l (λ (m : Mode) (xs : List Element). follow (m .state) xs ≡ over) (ended l)
     (λ m m′ e xs p h. let o = onward l m m′ e p in event-follows l (m .state) (m′ .state) e xs (o .follows) (o .event) ∙ h)
-    es d .1
+    es d .1 .1
 
 -- ---- states
 
@@ -68,6 +75,11 @@ pub ended-right :
     → follow (nextOf state 0) es ≡ over
 ended-right state c es h = by-test (eqb c (containerOf state)) (λ e. rw e at h) (λ e. absurd (omega (arith, rw e at h)))
 
+-- an end that stands where it may is that of its container
+pub ended-class :
+    (s c : ℕ) (es : List Element) → cond (eqb c (containerOf s)) (follow (nextOf s 0) es) 0 ≡ over → c ≡ containerOf s
+ended-class s c es h = by-test (eqb c (containerOf s)) (eqb-true c (containerOf s)) (λ e. absurd (omega (arith, rw e at h)))
+
 -- ---- the first elements
 
 module _ (P : List Element → Type 0) where
@@ -78,7 +90,7 @@ module _ (P : List Element → Type 0) where
       → (es : List Element) → Every Sorted es → follow state es ≡ over → P es
   unfolding follow
   leaf-first state d next only b n f [] s h = absurd (n h)
-  leaf-first state d next only b n f (opened c p ∷ es) s h = absurd (omega (arith, only c (taken (nextOf state c) es h) .0, s .0))
+  leaf-first state d next only b n f (opened c p ∷ es) s h = absurd (omega (arith, only c (taken (nextOf state c) es h) .0, s .0 .1))
   leaf-first state d next only b n f (text c p t ∷ es) s h =
       let o = only c (taken (nextOf state c) es h) in
       subst (λ (k : ℕ). P (text k p t ∷ es)) (sym (o .0)) (f p t es (s .1) (ap (λ (r : ℕ). follow r es) (sym (o .1)) ∙ h))
@@ -142,7 +154,7 @@ Limited m es = m .infos ≤ maxInfos → m .infos + total es ≤ maxInfos
 pub parts-limit : (l : List ℕ) (es : List Element) → documentOf l ≡ gives es → total es ≤ 16
 unfolding starts
 parts-limit l es p =
-    let h : 0 + total es ≤ 16 = accepted-holds l Limited last front es p .1 (omega arith) in
+    let h : 0 + total es ≤ 16 = accepted-holds l Limited last front es p .1 .1 (omega arith) in
     omega arith
   where
     last : (m : Mode) → stepOf l m ≡ Done → Limited m []

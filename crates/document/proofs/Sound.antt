@@ -28,7 +28,7 @@ part-length l from until h k =
 
 -- what holds of the text of each leaf, and of the class of each container
 module _ (l : List ℕ) (P : Element → Type 0)
-    (of-container : (c p : ℕ) → c ≤ class.lastContainer → P (opened c p))
+    (of-container : (c p : ℕ) → (0 < c) × (c ≤ class.lastContainer) → P (opened c p))
     (of-text : (c from until : ℕ) → Whole l c from until → P (text c from (part l from until)))
     (of-end : (c : ℕ) → P (closed c)) where
   event-every : (state : ℕ) (e : Event) → SoundEvent l state e → Every P (elementsOf l e)
@@ -81,7 +81,7 @@ all-clean l = all-hold l (Clean l) (λ c p h. tt) (whole-clean l) (λ c. tt)
 -- ---- containers start, leaves have texts
 
 abbrev pub Sorted : Element → Type 0
-Sorted (opened c p) = c ≤ class.lastContainer
+Sorted (opened c p) = (0 < c) × (c ≤ class.lastContainer)
 Sorted (text c p t) = class.lastContainer < c
 Sorted (closed c) = Prim.Unit
 

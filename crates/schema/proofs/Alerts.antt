@@ -1,14 +1,14 @@
 -- Where the alert stands and how it begins: rules of a state, a class and the next state, each tested once over all states and classes.
-use mathlib.Core.Path.{_≡_, refl}
+use mathlib.Core.Path.{_≡_, refl, sym}
 use mathlib.Core.Bool.{Bool, true, not, _&&_, _||_}
 use Prim.Native.Nat.{ℕ, _+_, _<_}
 use native.Mathlib.Omega.{arith}
-use lib.Dec.{T, eqb}
-use borrow.Author.Tests.{eqb-true, eqb-false, not-true, eq-eqb, ne-eqb}
-use Rattle.text.specs.Logic.{and-left, and-right, below, below-both}
+use lib.Dec.{T, eqb, ltb}
+use borrow.Author.Tests.{eqb-true, eqb-false, not-true, ltb-true, ltb-false, eq-eqb, ne-eqb}
+use Rattle.text.specs.Logic.{by-test, and-left, and-right, below, below-at, below-both}
 use Rattle.schema.specs.Classes as class
-use Rattle.schema.specs.Sequences.{before, firstState, states, classes, containerOf, nextOf}
-use Rattle.schema.proofs.Table.{inside}
+use Rattle.schema.specs.Sequences.{before, over, firstState, states, classes, containerOf, nextOf}
+use Rattle.schema.proofs.Table.{inside, no-class}
 
 -- ---- rules of any table
 
@@ -44,6 +44,14 @@ alert-before s h = eqb-true s before (rule alert-rule tt s class.alert h)
 pub never-before : (s c : ℕ) → nextOf s c ≡ before → ⊥
 unfolding nextOf containerOf
 never-before s c e = eqb-false (nextOf s c) before (not-true _ (rule later-rule tt s c (λ z. omega (arith, e, z)))) e
+
+-- after the alert nothing may stand
+pub over-none : (c : ℕ) → nextOf over c ≡ 0
+unfolding nextOf containerOf
+over-none c =
+    by-test (ltb c classes)
+    (λ t. eqb-true (nextOf over c) 0 (below-at classes (λ (c : ℕ). eqb (nextOf over c) 0) tt c (ltb-true c classes t)))
+    (λ t. sym (no-class over c (ltb-false c classes t)))
 
 -- ---- states in which one class only may stand
 
