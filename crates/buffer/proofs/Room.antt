@@ -7,7 +7,7 @@ use native.Mathlib.Omega.{arith}
 use lib.ListN.{length, take, set, length-set}
 use lib.Seq.{sets, sets-eq, take-at}
 use borrow.Author.Tests.{lt-ltb, le-leb, lt-leb}
-use Rattle.buffer.specs.declared.WriteText.the-variants.{End, NoRoom}
+use Rattle.text.specs.Answers.{gives, refuses}
 use Rattle.buffer.specs.Cursor.{cursor, putByte, putText, Put}
 use Rattle.buffer.specs.Writing.{written, writeText, afterText}
 
@@ -43,10 +43,10 @@ put-take {d} {s} {e} {k} p h =
 -- ---- a text from a start on: written whole, or nothing changed
 
 module _ (d : List ℕ) (at : ℕ) (s : List ℕ) where
-  pub no-room : length d < at + length s → (NoRoom ≡ writeText d at s) × (d ≡ afterText d at s)
+  pub no-room : length d < at + length s → (refuses 13 0 ≡ writeText d at s) × (d ≡ afterText d at s)
   unfolding writeText afterText
   no-room h = let e = lt-leb (at + length s) (length d) h in (rw e, rw e)
 
-  pub has-room : {f : List ℕ} {k : ℕ} → at + length s ≤ length d → Put d at s f k → (End k ≡ writeText d at s) × (f ≡ afterText d at s)
+  pub has-room : {f : List ℕ} {k : ℕ} → at + length s ≤ length d → Put d at s f k → (gives k ≡ writeText d at s) × (f ≡ afterText d at s)
   unfolding writeText afterText
-  has-room h p = let e = le-leb (at + length s) (length d) h in let w = put-whole p h in (rw e (ap End (w .1)), rw e (w .0))
+  has-room h p = let e = le-leb (at + length s) (length d) h in let w = put-whole p h in (rw e (ap gives (w .1)), rw e (w .0))

@@ -5,6 +5,7 @@ use mathlib.Core.List.{List, _++_}
 use Prim.Native.Nat.{ℕ, _+_}
 use lib.Dec.{leb}
 use lib.ListN.{length, take, drop}
+use Rattle.text.specs.Answers.{Answer, gives, refuses}
 use Rattle.buffer.specs.declared.WriteText.{WriteText}
 use Rattle.buffer.specs.declared.WriteText.the-variants.{End, NoRoom}
 
@@ -16,9 +17,13 @@ written d at s = take at d ++ (s ++ drop (at + length s) d)
 abbrev pub hasRoom : List ℕ → ℕ → List ℕ → Bool
 hasRoom d at s = leb (at + length s) (length d)
 
--- the answer to writing s
-unfoldable pub writeText : List ℕ → ℕ → List ℕ → WriteText
-writeText d at s = cond (hasRoom d at s) (End (at + length s)) NoRoom
+-- the answer to writing s: where it ends
+unfoldable pub writeText : List ℕ → ℕ → List ℕ → Answer ℕ
+writeText d at s = cond (hasRoom d at s) (gives (at + length s)) (refuses 13 0)
+
+abbrev pub textAnswer : WriteText → Answer ℕ
+textAnswer (End e) = gives e
+textAnswer NoRoom = refuses 13 0
 
 -- what the buffer then holds
 unfoldable pub afterText : List ℕ → ℕ → List ℕ → List ℕ

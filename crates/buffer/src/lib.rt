@@ -1,7 +1,7 @@
 // Texts written into a lent buffer.
 ghost use mathlib.Core.Path.{_≡_};
 ghost use Rattle.buffer.specs.Cursor.{Put};
-ghost use Rattle.buffer.specs.Writing.{writeText, afterText};
+ghost use Rattle.buffer.specs.Writing.{writeText, textAnswer, afterText};
 
 // Where a text that was written ends, or that there was no room for it.
 pub enum WriteText {
@@ -28,7 +28,7 @@ pub fn put(dst: &mut [u8], at: usize, src: &[u8]) -> usize
 
 // Writes a text into the buffer from start on; changes nothing where it has no room there.
 pub fn write_text(buffer: &mut [u8], start: usize, text: &[u8]) -> WriteText
-    ensures { λ r. ⌜ (r ≡ writeText (now (buffer .entry)) start (now (text .entry))) × (now (buffer .exit) ≡ afterText (now (buffer .entry)) start (now (text .entry))) ⌝ }
+    ensures { λ r. ⌜ (textAnswer r ≡ writeText (now (buffer .entry)) start (now (text .entry))) × (now (buffer .exit) ≡ afterText (now (buffer .entry)) start (now (text .entry))) ⌝ }
 {
     let n = buffer.len();
     if n < start {

@@ -15,10 +15,10 @@ use sheet::ranges::is_cap;
 use sheet::ranges::is_warn;
 ghost use mathlib.Core.Path.{_≡_};
 ghost use Rattle.sheet.specs.Sheet.{cap, warn};
-ghost use Rattle.sheet.specs.Answers.{writeSheet, after};
+ghost use Rattle.sheet.specs.Answers.{writing, writeAnswer, after};
 
-// No sentence is longer.
-pub const LONGEST: usize = 739;
+// The length of the longest sentence (sheet/specs/Sentence.antt: `longest`).
+pub const LONGEST: usize = 651;
 
 // Writes the sentence of a CAP sheet from start on. A sheet with a fact out of range, and one without room there, changes nothing.
 pub fn write_cap(
@@ -28,7 +28,7 @@ pub fn write_cap(
     sender: &[u8],
     name: &[u8],
 ) -> WriteSheet
-    ensures { λ r. ⌜ (r ≡ writeSheet (now (buffer .entry)) start (cap facts (now (sender .entry)) (now (name .entry)))) × (now (buffer .exit) ≡ after (now (buffer .entry)) start (cap facts (now (sender .entry)) (now (name .entry)))) ⌝ }
+    ensures { λ r. ⌜ (writeAnswer r ≡ writing (now (buffer .entry)) start (cap facts (now (sender .entry)) (now (name .entry)))) × (now (buffer .exit) ≡ after (now (buffer .entry)) start (cap facts (now (sender .entry)) (now (name .entry)))) ⌝ }
 {
     if !is_cap(facts, sender, name) {
         return WriteSheet::OutOfRange;
@@ -46,7 +46,7 @@ pub fn write_cap(
 
 // Writes the sentence of a WARN sheet from start on, or refuses it likewise.
 pub fn write_warn(buffer: &mut [u8], start: usize, facts: WarnFacts) -> WriteSheet
-    ensures { λ r. ⌜ (r ≡ writeSheet (now (buffer .entry)) start (warn facts)) × (now (buffer .exit) ≡ after (now (buffer .entry)) start (warn facts)) ⌝ }
+    ensures { λ r. ⌜ (writeAnswer r ≡ writing (now (buffer .entry)) start (warn facts)) × (now (buffer .exit) ≡ after (now (buffer .entry)) start (warn facts)) ⌝ }
 {
     if !is_warn(facts) {
         return WriteSheet::OutOfRange;

@@ -9,11 +9,11 @@ use crate::line::line_at;
 use sheet::Line;
 use sheet::ReadBack;
 ghost use mathlib.Core.Path.{_≡_};
-ghost use Rattle.sheet.specs.Answers.{readBack};
+ghost use Rattle.sheet.specs.Answers.{readBack, readAnswer};
 
 // Reads a text of read-backs, and gives their number and the sheet of the k-th, counted from 1; asked for 0, the number only.
 pub fn read_back(text: &[u8], k: usize) -> ReadBack
-    ensures { λ r. ⌜ r ≡ readBack (now (text .entry)) k ⌝ }
+    ensures { λ r. ⌜ readAnswer r ≡ readBack (now (text .entry)) k ⌝ }
 {
     let mut i = 0;
     let mut n = 0;

@@ -2,6 +2,7 @@
 // sentence.
 use crate::cap::cap_at;
 use crate::warn::warn_of;
+use readback::LONGEST;
 use readback::write_cap;
 use readback::write_warn;
 use sheet::Found;
@@ -11,10 +12,7 @@ use sheet::span_in;
 ghost use mathlib.Core.Path.{_≡_};
 ghost use lib.ListN.{drop};
 ghost use Rattle.sheet.specs.Reading.{foundAt, sheetIn, lineAt};
-ghost use Rattle.sheet.specs.Answers.{writeSheet, after};
-
-// Room for any sentence.
-const SENTENCE_ROOM: usize = 1024;
+ghost use Rattle.sheet.specs.Answers.{writing, writeAnswer, after};
 
 // What a text says from an offset on, as far as it can be read.
 pub fn found_at(t: &[u8], at: usize) -> Found
@@ -29,7 +27,7 @@ pub fn found_at(t: &[u8], at: usize) -> Found
 
 // Writes the sentence of a sheet that was found in a text over the front of a buffer.
 fn write_found(buffer: &mut [u8], t: &[u8], found: Found) -> WriteSheet
-    ensures { λ r. ⌜ (r ≡ writeSheet (now (buffer .entry)) 0 (sheetIn (now (t .entry)) found)) × (now (buffer .exit) ≡ after (now (buffer .entry)) 0 (sheetIn (now (t .entry)) found)) ⌝ }
+    ensures { λ r. ⌜ (writeAnswer r ≡ writing (now (buffer .entry)) 0 (sheetIn (now (t .entry)) found)) × (now (buffer .exit) ≡ after (now (buffer .entry)) 0 (sheetIn (now (t .entry)) found)) ⌝ }
 {
     match found {
         Found::Cap(facts, sender, name) => {
@@ -46,7 +44,7 @@ pub fn line_at(t: &[u8], at: usize) -> Line
     ensures { λ r. ⌜ r ≡ lineAt at (drop at (now (t .entry))) ⌝ }
 {
     let found = found_at(t, at);
-    let mut own = [0u8; SENTENCE_ROOM];
+    let mut own = [0u8; LONGEST];
     match write_found(&mut own, t, found) {
         WriteSheet::End(n) => {
             if text::starts_at(t, at, &own[..n]) {

@@ -6,9 +6,15 @@ use Prim.Native.Nat.{ℕ, zero, suc, _+_, _≤_, _<_}
 use native.Mathlib.Omega.{arith}
 use lib.ListN.{length, drop, length-drop, drop-of-length-le}
 use lib.Seq.{drop-drop}
+use Rattle.text.specs.Answers.{Answer, gives, refuses, giving}
+use Rattle.sheet.specs.declared.Found.{Found}
 use Rattle.sheet.specs.Reading.{foundAt, isLine}
-use Rattle.sheet.specs.Answers.{Contents, sheets, stops, followedBy, lineLength, contentsFrom, contentsOf}
+use Rattle.sheet.specs.Answers.{lineLength, contentsFrom, contentsOf}
 use Rattle.sheet.proofs.Lines.{line-some, line-bytes}
+
+-- a sheet in front of others
+abbrev pub followedBy : Found → Answer (List Found) → Answer (List Found)
+followedBy f c = giving (λ fs. f ∷ fs) c
 
 -- ---- the bound adds nothing
 
@@ -24,13 +30,13 @@ contents-enough (suc n) (suc m) i (b ∷ l) p q =
     let t = b ∷ l in
     let k = lineLength t in
     let h = line-some t in
-    ap (λ (c : Contents). cond (isLine t) (followedBy (foundAt i t) c) (stops i))
+    ap (λ (c : Answer (List Found)). cond (isLine t) (followedBy (foundAt i t) c) (refuses 23 i))
     (contents-enough n m (i + k) (drop k t) (simp length-drop (omega arith)) (simp length-drop (omega arith)))
 
 -- ---- one line
 
 module _ (i : ℕ) where
-  pub contents-end : contentsFrom 0 i [] ≡ sheets []
+  pub contents-end : contentsFrom 0 i [] ≡ gives []
   unfolding contentsFrom
   contents-end = refl
 
@@ -48,7 +54,7 @@ module _ (i : ℕ) where
       (ap (followedBy (foundAt i t))
       (contents-enough (length l) (length (drop k t)) (i + k) (drop k t) (simp length-drop (omega arith)) (omega arith)))
 
-  pub contents-stop : (l : List ℕ) → 0 < length l → isLine l ≡ false → contentsFrom (length l) i l ≡ stops i
+  pub contents-stop : (l : List ℕ) → 0 < length l → isLine l ≡ false → contentsFrom (length l) i l ≡ refuses 23 i
   unfolding contentsFrom
   contents-stop [] h e = absurd (omega arith)
   contents-stop (b ∷ l) h e = rw e
@@ -56,7 +62,7 @@ module _ (i : ℕ) where
 -- ---- the same by offsets of a text
 
 -- the contents of the text t from the offset i on
-abbrev pub contentsAt : List ℕ → ℕ → Contents
+abbrev pub contentsAt : List ℕ → ℕ → Answer (List Found)
 contentsAt t i = contentsFrom (length (drop i t)) i (drop i t)
 
 module _ (t : List ℕ) where
@@ -64,7 +70,7 @@ module _ (t : List ℕ) where
   unfolding contentsOf
   turn-start = refl
 
-  pub turn-end : (i : ℕ) → length t ≤ i → contentsAt t i ≡ sheets []
+  pub turn-end : (i : ℕ) → length t ≤ i → contentsAt t i ≡ gives []
   turn-end i h = rw (drop-of-length-le t h) (contents-end i)
 
   pub turn-on : (i : ℕ) → isLine (drop i t) ≡ true → contentsAt t i ≡ followedBy (foundAt i (drop i t)) (contentsAt t (i + lineLength (drop i t)))
@@ -73,5 +79,5 @@ module _ (t : List ℕ) where
       contents-on i (drop i t) e
       ∙ ap (λ (l : List ℕ). followedBy (foundAt i (drop i t)) (contentsFrom (length l) (i + k) l)) (drop-drop k i t)
 
-  pub turn-stop : (i : ℕ) → i < length t → isLine (drop i t) ≡ false → contentsAt t i ≡ stops i
+  pub turn-stop : (i : ℕ) → i < length t → isLine (drop i t) ≡ false → contentsAt t i ≡ refuses 23 i
   turn-stop i h e = contents-stop i (drop i t) (simp length-drop (omega arith)) e

@@ -1,8 +1,8 @@
--- How long a sentence can be.
-use mathlib.Core.Path.{_≡_}
+-- How long a sentence can be. A bound is the sum of the literals' lengths and of the bounds of what stands between them.
+use mathlib.Core.Path.{_≡_, refl}
 use mathlib.Core.Bool.{Bool, true, false}
 use mathlib.Core.List.{List}
-use Prim.Native.Nat.{ℕ, _≤_, _<_}
+use Prim.Native.Nat.{ℕ, _+_, _*_, _≤_, _<_}
 use native.Mathlib.Omega.{arith}
 use lib.Dec.{leb}
 use lib.ListN.{length, length-append}
@@ -11,7 +11,8 @@ use Rattle.text.specs.Ascii.{ascii}
 use Rattle.text.specs.Logic.{below-at}
 use Rattle.codes.proofs.Numbers.{message-numbers, status-numbers, scope-numbers, urgency-numbers, severity-numbers, certainty-numbers}
 use Rattle.words.specs.Words.{dictionary, word, spaced, ones, belowHundred, belowThousand, group, numberCodes, said}
-use Rattle.words.proofs.Lengths.{said-le, duration-le}
+use Rattle.words.specs.Duration.{counted, durationCodes, lasting}
+use Rattle.words.proofs.Lengths.{said-le, short-le, lasting-le}
 use Rattle.sheet.specs.declared.Lasting.{Lasting}
 use Rattle.sheet.specs.declared.Lasting.the-variants.{Unstated, Seconds}
 use Rattle.sheet.specs.declared.Part.{Part}
@@ -19,7 +20,7 @@ use Rattle.sheet.specs.declared.Parts.{Parts}
 use Rattle.sheet.specs.declared.Parts.the-variants.{NoPart, OnePart}
 use Rattle.sheet.specs.declared.CapFacts.{CapFacts}
 use Rattle.sheet.specs.declared.WarnFacts.{WarnFacts}
-use Rattle.sheet.specs.Sheet.{Sheet, cap, warn, isLastingTime, isParts, inRange}
+use Rattle.sheet.specs.Sheet.{Sheet, cap, warn, isLastingTime, isParts, fitsPacket, inRange}
 use Rattle.sheet.specs.Sentence.{plain, lastingText, partText, partsText, capText, flag, flagsText, originText, hazardText, warnText, sentenceIn, sentence, longest}
 use Rattle.sheet.proofs.Limits.{lasting-range, part-range, CapRange, cap-range, WarnRange, warn-range}
 use Rattle.sheet.proofs.ReadCode.{code-le}
@@ -35,12 +36,12 @@ byte-le n h = leb-true (length (said n)) 26 (below-at 0x100 byte-fits tt n h)
 
 -- ---- a CAP sheet
 
-lasting-text-le : (x : Lasting) → isLastingTime x ≡ true → length (lastingText plain x) ≤ 116
+lasting-text-le : (x : Lasting) → isLastingTime x ≡ true → length (lastingText plain x) ≤ 93
 unfolding lastingText
 lasting-text-le Unstated e = omega arith
-lasting-text-le (Seconds s) e = duration-le s (omega (arith, lasting-range s e))
+lasting-text-le (Seconds s) e = lasting-le s (omega (arith, lasting-range s e))
 
-part-text-le : (p : Part) → isParts (OnePart p) ≡ true → length (partText plain p) ≤ 220
+part-text-le : (p : Part) → isParts (OnePart p) ≡ true → length (partText plain p) ≤ 197
 unfolding partText
 part-text-le p e =
     let r = part-range p e in
@@ -55,12 +56,12 @@ part-text-le p e =
       lasting-text-le (p .lasting) (r .lasting),
     ))
 
-parts-text-le : (p : Parts) → isParts p ≡ true → length (partsText plain p) ≤ 220
+parts-text-le : (p : Parts) → isParts p ≡ true → length (partsText plain p) ≤ 197
 unfolding partsText
 parts-text-le NoPart e = omega arith
 parts-text-le (OnePart p) e = part-text-le p e
 
-cap-text-le : (f : CapFacts) (sender name : List ℕ) → CapRange f sender name → length (capText plain f sender name) ≤ 530
+cap-text-le : (f : CapFacts) (sender name : List ℕ) → CapRange f sender name → length (capText plain f sender name) ≤ 507
 unfolding capText
 cap-text-le f sender name r =
     simp length-append
@@ -95,16 +96,16 @@ module _ (x : WarnFacts) where
       ))
 
   module _ (r : WarnRange x) where
-    origin-text-le : length (originText plain x) ≤ 491
+    origin-text-le : length (originText plain x) ≤ 403
     unfolding originText
     origin-text-le =
         simp length-append
         (omega (
           arith,
           said-le (x .event) (r .event),
-          said-le (x .number) (omega (arith, r .number)),
+          short-le (x .number) (r .number),
           said-le (x .origin) (r .origin),
-          duration-le (x .lasting) (omega (arith, r .lasting)),
+          lasting-le (x .lasting) (omega (arith, r .lasting)),
         ))
 
     hazard-text-le : length (hazardText plain x) ≤ 210
@@ -129,3 +130,28 @@ pub sentence-le : (x : Sheet) → inRange x ≡ true → length (sentence x) ≤
 unfolding sentence sentenceIn
 sentence-le (cap f sender name) e = omega (arith, cap-text-le f sender name (cap-range f sender name e))
 sentence-le (warn x) e = warn-text-le x (warn-range x e)
+
+-- ---- the longest: each flag is set, and each number is one of those with the longest words
+
+longestWarn : WarnFacts
+longestWarn = record {
+  urgent = true;
+  update = true;
+  cancel = true;
+  test = true;
+  event = 3_373_373_373;
+  number = 23_373;
+  origin = 3_373_373_373;
+  lasting = ((323 * 24 + 23) * 60 + 23) * 60 + 23;  -- 323 days, 23 hours, 23 minutes, 23 seconds
+  hazard = 173;
+  kind = 173;
+  urgency = 173;
+  severity = 173;
+  certainty = 173;
+  response = 173;
+}
+
+pub longest-reached : (x : Sheet) × ((inRange x ≡ true) × (length (sentence x) ≡ longest))
+unfolding dictionary word spaced ones belowHundred belowThousand group numberCodes said counted durationCodes lasting sentence sentenceIn warnText
+    flagsText flag originText hazardText fitsPacket inRange longestWarn
+longest-reached = (warn longestWarn, (refl, refl))

@@ -13,5 +13,6 @@ pub mod ReadAll
 pub mod Demand3
 pub mod Samples3
 pub mod ReadLoop
+pub mod Ascii
 pub mod Names
 pub mod Widths

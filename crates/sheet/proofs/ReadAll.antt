@@ -1,25 +1,25 @@
 -- Reading a text of whole read-backs gives their sheets, and any other text is refused at its first line that is none.
 use mathlib.Core.Path.{_≡_, refl, sym, ap, ap₂, _∙_}
-use mathlib.Core.Bool.{Bool, true, false, true≢false}
+use mathlib.Core.Bool.{true, false}
 use mathlib.Core.List.{List, [], _∷_, _++_, append-assoc}
 use mathlib.Core.Logic.{_⊎_, inl, inr, ⊎-elim}
+use mathlib.Core.Option.{none, some}
 use Prim.Native.Nat.{ℕ, zero, suc, _+_, _≤_, _<_}
 use native.Mathlib.Omega.{arith}
 use native.Mathlib.Nat.{zero-add}
 use lib.ListN.{length, drop, getD, length-append, length-drop}
 use lib.Seq.{drop-drop, drop-append-seam}
-use Rattle.text.specs.Logic.{by-test, and-left, and-right}
+use Rattle.text.specs.Answers.{Answer, gives, refuses, andThen}
+use Rattle.text.specs.Logic.{by-test, clash, and-left, and-right}
 use Rattle.sheet.specs.declared.Found.{Found}
-use Rattle.sheet.specs.declared.ReadBack.{ReadBack}
-use Rattle.sheet.specs.declared.ReadBack.the-variants as readback
 use Rattle.sheet.specs.Sheet.{Sheet, inRange}
 use Rattle.sheet.specs.Sentence.{sentence}
 use Rattle.sheet.specs.Reading.{foundAt, sheetIn, sheetOf, isLine}
-use Rattle.sheet.specs.Answers.{sheets, stops, followedBy, lineLength, contentsFrom, contentsOf, pick, asked, readBack}
+use Rattle.sheet.specs.Answers.{lineLength, contentsFrom, contentsOf, pick, asked, readBack}
 use Rattle.sheet.specs.Demand.{sentences, allInRange, Reads, Refuses, IsReadBacks}
 use Rattle.sheet.proofs.ReadSentence.{found-at, sheet-of-sentence}
 use Rattle.sheet.proofs.Lines.{sentence-some, is-line, line-length, after-line, line-range, line-split, line-some, not-line}
-use Rattle.sheet.proofs.Contents.{contents-on, contents-stop, contents-end}
+use Rattle.sheet.proofs.Contents.{followedBy, contents-on, contents-stop, contents-end}
 
 -- ---- texts of whole read-backs
 
@@ -33,7 +33,7 @@ unfolding founds
 founds-length i [] = refl
 founds-length i (x ∷ xs) = ap suc (founds-length (i + length (sentence x)) xs)
 
-contents-sentences : (i : ℕ) (xs : List Sheet) → allInRange xs ≡ true → contentsFrom (length (sentences xs)) i (sentences xs) ≡ sheets (founds i xs)
+contents-sentences : (i : ℕ) (xs : List Sheet) → allInRange xs ≡ true → contentsFrom (length (sentences xs)) i (sentences xs) ≡ gives (founds i xs)
 unfolding sentences allInRange founds
 contents-sentences i [] v = contents-end i
 contents-sentences i (x ∷ xs) v =
@@ -61,30 +61,30 @@ founds-sheet t i (x ∷ xs) (suc k) f z e v h =
     (and-right (inRange x) (allInRange xs) v)
     (omega arith)
 
-pick-some : (n : ℕ) (fs : List Found) (k : ℕ) (f : Found) → k < length fs → pick n fs k ≡ readback.Sheet n (getD fs k f)
+pick-some : (n : ℕ) (fs : List Found) (k : ℕ) (f : Found) → k < length fs → pick n fs k ≡ gives (n, some (getD fs k f))
 unfolding pick
 pick-some n [] k f h = absurd (omega arith)
 pick-some n (g ∷ fs) zero f h = refl
 pick-some n (g ∷ fs) (suc k) f h = pick-some n fs k f (omega arith)
 
-pick-none : (n : ℕ) (fs : List Found) (k : ℕ) → length fs ≤ k → pick n fs k ≡ readback.NotThere
+pick-none : (n : ℕ) (fs : List Found) (k : ℕ) → length fs ≤ k → pick n fs k ≡ refuses 21 0
 unfolding pick
 pick-none n [] k h = refl
 pick-none n (g ∷ fs) zero h = absurd (omega arith)
 pick-none n (g ∷ fs) (suc k) h = pick-none n fs k (omega arith)
 
 module _ (xs : List Sheet) (v : allInRange xs ≡ true) where
-  all-contents : contentsOf (sentences xs) ≡ sheets (founds 0 xs)
+  all-contents : contentsOf (sentences xs) ≡ gives (founds 0 xs)
   unfolding contentsOf
   all-contents = contents-sentences 0 xs v
 
-  all-count : readBack (sentences xs) 0 ≡ readback.Count (length xs)
+  all-count : readBack (sentences xs) 0 ≡ gives (length xs, none)
   unfolding readBack asked
-  all-count = ap (asked 0) all-contents ∙ ap readback.Count (founds-length 0 xs)
+  all-count = ap (λ (c : Answer (List Found)). andThen c (asked 0)) all-contents ∙ ap (λ (n : ℕ). gives (n, none)) (founds-length 0 xs)
 
   all-pick : (k : ℕ) → readBack (sentences xs) (suc k) ≡ pick (length xs) (founds 0 xs) k
   unfolding readBack asked
-  all-pick k = ap (asked (suc k)) all-contents ∙ ap (λ (n : ℕ). pick n (founds 0 xs) k) (founds-length 0 xs)
+  all-pick k = ap (λ (c : Answer (List Found)). andThen c (asked (suc k))) all-contents ∙ ap (λ (n : ℕ). pick n (founds 0 xs) k) (founds-length 0 xs)
 
   pub reads : Reads xs
   reads =
@@ -132,7 +132,7 @@ record Stopped (i : ℕ) (t : List ℕ) : Type 0 where
   pub split : t ≡ sentences front ++ rest
   pub more : rest ≡ [] → ⊥
   pub other : (x : Sheet) (l : List ℕ) → inRange x ≡ true → rest ≡ sentence x ++ l → ⊥
-  pub answer : contentsFrom (length t) i t ≡ stops (i + length (sentences front))
+  pub answer : contentsFrom (length t) i t ≡ refuses 23 (i + length (sentences front))
 
 cons-nil : (b : ℕ) (l : List ℕ) → b ∷ l ≡ [] → ⊥
 cons-nil b l e = omega (arith, ap length e)
@@ -157,7 +157,7 @@ module _ (i : ℕ) (t : List ℕ) (e : isLine t ≡ true) where
         ∙ sym (append-assoc (sentence (sheetOf t)) (sentences (s .front)) (s .rest));
     more = s .more;
     other = s .other;
-    answer = contents-on i t e ∙ ap (followedBy (foundAt i t)) (s .answer) ∙ ap stops (simp length-append (omega arith));
+    answer = contents-on i t e ∙ ap (followedBy (foundAt i t)) (s .answer) ∙ ap (refuses 23) (simp length-append (omega arith));
   }
 
 stopped-here : (i b : ℕ) (l : List ℕ) → isLine (b ∷ l) ≡ false → Stopped i (b ∷ l)
@@ -169,7 +169,7 @@ stopped-here i b l e = record {
   split = refl;
   more = cons-nil b l;
   other = not-line (b ∷ l) e;
-  answer = contents-stop i (b ∷ l) (omega arith) e ∙ ap stops (omega arith);
+  answer = contents-stop i (b ∷ l) (omega arith) e ∙ ap (refuses 23) (omega arith);
 }
 
 -- n bounds the length of the text
@@ -190,11 +190,6 @@ read-all (suc n) i (b ∷ l) h =
     (read-all n (i + k) (drop k t) (simp length-drop (omega arith))))
     (λ e. inr (stopped-here i b l e))
 
-asked-stops : (k p : ℕ) → asked k (stops p) ≡ readback.NotReadBack p
-unfolding asked
-asked-stops zero p = refl
-asked-stops (suc k) p = refl
-
 refused-at : (t : List ℕ) → Stopped 0 t → Refuses t
 unfolding readBack contentsOf
 refused-at t s = record {
@@ -205,20 +200,12 @@ refused-at t s = record {
   more = s .more;
   other = s .other;
   answer = λ k.
-      ap (asked k) (s .answer ∙ ap stops (zero-add (length (sentences (s .front))))) ∙ asked-stops k (length (sentences (s .front)));
+      ap (λ (c : Answer (List Found)). andThen c (asked k)) (s .answer)
+      ∙ ap (refuses 23) (zero-add (length (sentences (s .front))));
 }
 
 pub exact : (t : List ℕ) → IsReadBacks t ⊎ Refuses t
 exact t = ⊎-elim inl (λ s. inr (refused-at t s)) (read-all (length t) 0 t (omega arith))
 
-isCount : ReadBack → Bool
-isCount (readback.Count n) = true
-isCount (readback.Sheet n f) = false
-isCount (readback.NotReadBack p) = false
-isCount readback.NotThere = false
-
 pub never : (t : List ℕ) → IsReadBacks t → Refuses t → ⊥
-unfolding isCount
-never t s r =
-    true≢false
-    (ap isCount (sym (all-count (s .0) (s .1 .0)) ∙ ap (λ (l : List ℕ). readBack l 0) (sym (s .1 .1)) ∙ r .answer 0))
+never t s r = clash (cc (all-count (s .0) (s .1 .0), s .1 .1, r .answer 0))

@@ -16,7 +16,7 @@ use Rattle.text.specs.Parts.{startsWith}
 use Rattle.words.specs.Reading.{numberAt, durationAt}
 use Rattle.sheet.specs.Sheet.{Sheet, cap, warn, inRange}
 use Rattle.sheet.specs.Sentence.{plain, capText, warnText, sentenceIn, sentence}
-use Rattle.sheet.specs.Reading.{wordLength, wordOf, afterWord, restAfter, restAfterAll, fromPeriod, fromHazard, fromMessage, fromStatus, fromScope, fromSender, fromName, indexIn, capOf, warnOf, foundAt, sheetIn, sheetOf}
+use Rattle.sheet.specs.Reading.{wordLength, wordOf, afterWord, restAfter, restAfterAll, fromPeriod, fromHazard, fromMessage, fromStatus, fromScope, fromSender, fromName, capOf, warnOf, foundAt, sheetIn, sheetOf}
 use Rattle.sheet.proofs.Limits.{cap-range, warn-range}
 use Rattle.sheet.proofs.ReadCap.{cap-read}
 use Rattle.sheet.proofs.ReadWarn.{warn-read}
@@ -34,10 +34,10 @@ rest-drop k rest l r = record { from = r .from + k; is = ap (drop k) (r .is) ∙
 pub rest-le : (rest l : List ℕ) → Rest rest l → length rest ≤ length l
 rest-le rest l r = omega (arith, ap length (r .is) ∙ length-drop (r .from) l)
 
-pub rest-offset : (rest l : List ℕ) → Rest rest l → drop (indexIn l rest) l ≡ rest
+pub rest-offset : (rest l : List ℕ) → Rest rest l → drop (length l - length rest) l ≡ rest
 rest-offset rest l r =
     by-test (leb (r .from) (length l))
-    (λ e. let k = ap length (r .is) ∙ length-drop (r .from) l in let z : indexIn l rest ≡ r .from = omega (arith, leb-true (r .from) (length l) e) in
+    (λ e. let k = ap length (r .is) ∙ length-drop (r .from) l in let z : length l - length rest ≡ r .from = omega (arith, leb-true (r .from) (length l) e) in
     rw z (sym (r .is)))
     (λ e.
     let h = leb-false (r .from) (length l) e in
@@ -87,8 +87,8 @@ module _ (i : ℕ) (t : List ℕ) where
   found-cap e =
       let l = drop i t in
       rw e
-      (ap₂ (cap (capOf l)) (span-at (indexIn l (fromSender l)) (fromSender l) (rest-offset (fromSender l) l (sender-rest l)))
-      (span-at (indexIn l (fromName l)) (fromName l) (rest-offset (fromName l) l (name-rest l))))
+      (ap₂ (cap (capOf l)) (span-at (length l - length (fromSender l)) (fromSender l) (rest-offset (fromSender l) l (sender-rest l)))
+      (span-at (length l - length (fromName l)) (fromName l) (rest-offset (fromName l) l (name-rest l))))
 
 -- from the start of a text
 pub sheet-warn : (l : List ℕ) → startsWith (ascii "warn") l ≡ true → sheetOf l ≡ warn (warnOf l)

@@ -2,7 +2,8 @@
 use mathlib.Core.Path.{_≡_, refl}
 use mathlib.Core.Bool.{true}
 use mathlib.Core.List.{[], _∷_}
-use Rattle.sheet.specs.declared.ReadBack.the-variants as readback
+use mathlib.Core.Option.{none}
+use Rattle.text.specs.Answers.{gives}
 use Rattle.text.specs.Parts.{startsWith}
 use Rattle.sheet.specs.Sheet.{allNameBytes, holdsCdataEnd, isName, isParts, fitsPacket, inRange}
 use Rattle.sheet.specs.Sentence.{sentence}
@@ -35,6 +36,6 @@ pub read-warn : sheetOf (sentence warnCancel) ≡ warnCancel
 read-warn = sheet-of-whole warnCancel warn-range
 
 -- the three in one text: asked for 0, the reader gives their number
-pub read-count : readBack (sentences (kilnAlert ∷ kilnCancel ∷ warnCancel ∷ [])) 0 ≡ readback.Count 3
+pub read-count : readBack (sentences (kilnAlert ∷ kilnCancel ∷ warnCancel ∷ [])) 0 ≡ gives (3, none)
 unfolding allInRange startsWith allNameBytes holdsCdataEnd isName isParts fitsPacket inRange
 read-count = reads (kilnAlert ∷ kilnCancel ∷ warnCancel ∷ []) refl .count

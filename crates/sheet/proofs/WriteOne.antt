@@ -1,20 +1,21 @@
--- One write: the bytes that it leaves in the buffer, its answer, and the start of the next.
+-- One write: its answer, and the bytes that it leaves in the buffer.
 use mathlib.Core.Path.{_≡_, refl, sym, ap, _∙_}
 use mathlib.Core.Bool.{true, false}
 use mathlib.Core.List.{List, [], _++_, append-assoc}
 use Prim.Native.Nat.{ℕ, _+_, _≤_, _<_}
 use native.Mathlib.Omega.{arith}
 use native.Mathlib.Nat.{add-zero, add-assoc}
+use lib.Dec.{leb}
 use lib.ListN.{length, take, drop, length-append, length-take, length-drop, take-append-drop}
 use lib.Seq.{drop-append-add, take-at, drop-at, drop-drop, length-take-le}
-use borrow.Author.Tests.{leb-true, le-leb, lt-leb}
-use Rattle.buffer.specs.Writing.{written}
-use Rattle.text.specs.Logic.{by-test, and-left, and-right}
-use Rattle.sheet.specs.declared.WriteSheet.the-variants.{End, OutOfRange}
+use borrow.Author.Tests.{leb-true, leb-false, le-leb}
+use Rattle.text.specs.Answers.{gives, refuses}
+use Rattle.buffer.specs.Writing.{written, writeText, afterText}
+use Rattle.buffer.proofs.Room.{no-room}
+use Rattle.text.specs.Logic.{by-test, clash}
 use Rattle.sheet.specs.Sheet.{Sheet, inRange}
 use Rattle.sheet.specs.Sentence.{sentence}
-use Rattle.sheet.specs.Answers.{hasRoom, isWritable, writeSheet, after}
-use Rattle.sheet.specs.Demand.{nextStart}
+use Rattle.sheet.specs.Answers.{writing, after}
 
 -- ---- bytes written into a buffer
 
@@ -49,44 +50,45 @@ module _ (d : List ℕ) (at : ℕ) where
 -- ---- one write
 
 module _ (d : List ℕ) (at : ℕ) (x : Sheet) where
-  pub after-written : isWritable d at x ≡ true → after d at x ≡ written d at (sentence x)
-  unfolding after
-  after-written e = rw e
-
-  pub start-written : isWritable d at x ≡ true → nextStart d at x ≡ at + length (sentence x)
-  unfolding nextStart
-  start-written e = rw e
-
-  pub after-refused : isWritable d at x ≡ false → after d at x ≡ d
-  unfolding after
-  after-refused e = rw e
-
-  pub start-refused : isWritable d at x ≡ false → nextStart d at x ≡ at
-  unfolding nextStart
-  start-refused e = rw e
-
-  pub written-range : isWritable d at x ≡ true → inRange x ≡ true
-  unfolding isWritable
-  written-range e = and-left (inRange x) (hasRoom d at x) e
-
-  pub written-room : isWritable d at x ≡ true → at + length (sentence x) ≤ length d
-  unfolding isWritable
-  written-room e = leb-true (at + length (sentence x)) (length d) (and-right (inRange x) (hasRoom d at x) e)
-
-  -- after the buffer's end nothing is written
-  pub past-refused : length d < at → isWritable d at x ≡ false
-  unfolding isWritable
-  past-refused h =
-      by-test (inRange x) (λ e. rw (isWritable, e) (lt-leb (at + length (sentence x)) (length d) (omega arith))) (λ e. rw (isWritable, e))
-
-  -- ---- the answer and the buffer by the cases of the ranges and the room
-
-  pub refuse-range : inRange x ≡ false → (writeSheet d at x ≡ OutOfRange) × (after d at x ≡ d)
-  unfolding writeSheet after isWritable
+  pub refuse-range : inRange x ≡ false → (refuses 23 0 ≡ writing d at x) × (d ≡ after d at x)
+  unfolding writing after
   refuse-range e = (rw e, rw e)
+
+  pub refuse-room : inRange x ≡ true → length d < at + length (sentence x) → (refuses 13 0 ≡ writing d at x) × (d ≡ after d at x)
+  unfolding writing after
+  refuse-room e h = let w = no-room d at (sentence x) h in (rw e (w .0), rw e (w .1))
 
   pub write-end :
       inRange x ≡ true → at + length (sentence x) ≤ length d
-      → (writeSheet d at x ≡ End (at + length (sentence x))) × (after d at x ≡ written d at (sentence x))
-  unfolding writeSheet after isWritable
+      → (gives (at + length (sentence x)) ≡ writing d at x) × (written d at (sentence x) ≡ after d at x)
+  unfolding writing after writeText afterText
   write-end e h = let r = le-leb (at + length (sentence x)) (length d) h in (rw (e, r), rw (e, r))
+
+  by-case :
+      {P : Type 0} → (inRange x ≡ false → P)
+      → (inRange x ≡ true → length d < at + length (sentence x) → P)
+      → (inRange x ≡ true → at + length (sentence x) ≤ length d → P) → P
+  by-case f g h =
+      by-test (inRange x)
+      (λ e.
+      by-test (leb (at + length (sentence x)) (length d))
+      (λ r. h e (leb-true (at + length (sentence x)) (length d) r))
+      (λ r. g e (leb-false (at + length (sentence x)) (length d) r)))
+      f
+
+  -- what an answer says of the sheet, the room and the buffer
+  pub record Written (k : ℕ) : Type 0 where
+    pub range : inRange x ≡ true
+    pub room : at + length (sentence x) ≤ length d
+    pub end : k ≡ at + length (sentence x)
+    pub buffer : after d at x ≡ written d at (sentence x)
+
+  pub given : {k : ℕ} → gives k ≡ writing d at x → Written k
+  given {k} q =
+      by-case
+      (λ e. clash (cc (q, refuse-range e .0)))
+      (λ e r. clash (cc (q, refuse-room e r .0)))
+      (λ e r. let w = write-end e r in record { range = e; room = r; end = cc (q, w .0); buffer = sym (w .1) })
+
+  pub refused : {n p : ℕ} → refuses n p ≡ writing d at x → after d at x ≡ d
+  refused {n} {p} q = by-case (λ e. sym (refuse-range e .1)) (λ e r. sym (refuse-room e r .1)) (λ e r. clash (cc (q, write-end e r .0)))

@@ -1,41 +1,47 @@
--- Demand 3 of the request, stated over the definitions that the contracts of the writer and the reader name: any list of sheets, any
--- buffer, any start. proofs/Demand3.antt proves it.
+-- Demand 3 of the request, stated over what the contracts of the writer and the reader promise: any list of sheets, any buffer, any start.
+-- proofs/Demand3.antt proves it.
 use mathlib.Core.Path.{_≡_}
-use mathlib.Core.Bool.{Bool, true, cond, _&&_}
+use mathlib.Core.Bool.{Bool, true, _&&_}
 use mathlib.Core.List.{List, [], _∷_, _++_}
 use mathlib.Core.Logic.{_⊎_}
-use Prim.Native.Nat.{ℕ, suc, _+_, _-_, _<_, _≤_}
-use lib.ListN.{length, take, drop, getD}
+use mathlib.Core.Option.{none, some}
+use Prim.Native.Nat.{ℕ, suc, _+_, _<_, _≤_}
+use lib.ListN.{length, getD}
+use Rattle.text.specs.Answers.{Answer, gives, refuses}
+use Rattle.text.specs.Parts.{part}
 use Rattle.buffer.specs.Writing.{written}
 use Rattle.sheet.specs.declared.Found.{Found}
-use Rattle.sheet.specs.declared.ReadBack.the-variants as readback
 use Rattle.sheet.specs.Sheet.{Sheet, inRange}
 use Rattle.sheet.specs.Sentence.{sentence}
 use Rattle.sheet.specs.Reading.{sheetIn}
-use Rattle.sheet.specs.Answers.{isWritable, after, readBack}
+use Rattle.sheet.specs.Answers.{writing, after, readBack}
 
--- ---- a list of writes, one after the other
+-- ---- a run of calls
+
+-- one call of the writer: its answer r, and the buffer e that it leaves, are those of its contract
+pub record Call (x : Sheet) (d : List ℕ) (at : ℕ) (r : Answer ℕ) (e : List ℕ) : Type 0 where
+  pub answer : r ≡ writing d at x
+  pub buffer : e ≡ after d at x
 
 -- "Each write starts where the last sentence ended, or, after a refusal, from the same start."
-unfoldable pub nextStart : List ℕ → ℕ → Sheet → ℕ
-nextStart d at x = cond (isWritable d at x) (at + length (sentence x)) at
+abbrev pub nextStart : ℕ → Answer ℕ → ℕ
+nextStart at (gives end) = end
+nextStart at (refuses n p) = at
 
--- the buffer after all writes, the end of the last sentence, and the sheets that were not refused at their turn, in their order
-unfoldable pub afterAll : List Sheet → List ℕ → ℕ → List ℕ
-afterAll [] d at = d
-afterAll (x ∷ xs) d at = afterAll xs (after d at x) (nextStart d at x)
+-- the calls for a list of sheets and their answers, from the buffer d and the start at to the buffer e and the end of the last sentence;
+-- "each write gets it as the last one left it"
+pub data Run : List Sheet → List (Answer ℕ) → List ℕ → ℕ → List ℕ → ℕ → Type 0 where
+  no-call : {d : List ℕ} {at : ℕ} → Run [] [] d at d at
+  one-call :
+      {x : Sheet} {xs : List Sheet} {r : Answer ℕ} {rs : List (Answer ℕ)} {d m e : List ℕ} {at end : ℕ}
+      → Call x d at r m → Run xs rs m (nextStart at r) e end → Run (x ∷ xs) (r ∷ rs) d at e end
 
-unfoldable pub lastEnd : List Sheet → List ℕ → ℕ → ℕ
-lastEnd [] d at = at
-lastEnd (x ∷ xs) d at = lastEnd xs (after d at x) (nextStart d at x)
-
-unfoldable pub sheetsWritten : List Sheet → List ℕ → ℕ → List Sheet
-sheetsWritten [] d at = []
-sheetsWritten (x ∷ xs) d at = cond (isWritable d at x) (x ∷ []) [] ++ sheetsWritten xs (after d at x) (nextStart d at x)
-
--- "the text, from the first start to the end of the last sentence"
-unfoldable pub textWritten : List Sheet → List ℕ → ℕ → List ℕ
-textWritten xs d at = take (lastEnd xs d at - at) (drop at (afterAll xs d at))
+-- the sheets whose answers are no refusals, in their order
+unfoldable pub notRefused : List Sheet → List (Answer ℕ) → List Sheet
+notRefused [] rs = []
+notRefused (x ∷ xs) [] = []
+notRefused (x ∷ xs) (gives end ∷ rs) = x ∷ notRefused xs rs
+notRefused (x ∷ xs) (refuses n p ∷ rs) = notRefused xs rs
 
 -- the sentences of sheets, one after the other
 unfoldable pub sentences : List Sheet → List ℕ
@@ -48,20 +54,24 @@ allInRange (x ∷ xs) = inRange x && allInRange xs
 
 -- ---- the statement
 
--- the text is the read-backs of exactly the sheets that are not refused, in their order; "The rest of the buffer is untouched."
-pub record WritesList (xs : List Sheet) (d : List ℕ) (at : ℕ) : Type 0 where
-  pub text : textWritten xs d at ≡ sentences (sheetsWritten xs d at)
-  pub buffer : afterAll xs d at ≡ written d at (sentences (sheetsWritten xs d at))
-  pub end : lastEnd xs d at ≡ at + length (sentences (sheetsWritten xs d at))
-  pub sound : allInRange (sheetsWritten xs d at) ≡ true
+-- "the text, from the first start to the end of the last sentence (empty if nothing was written), is the read-backs" of the sheets xs,
+-- which were not refused; "The rest of the buffer is untouched."
+pub record Writes (xs : List Sheet) (d : List ℕ) (at : ℕ) (e : List ℕ) (end : ℕ) : Type 0 where
+  pub text : part e at end ≡ sentences xs
+  pub buffer : e ≡ written d at (sentences xs)
+  pub size : length e ≡ length d
+  pub place : end ≡ at + length (sentences xs)
+  pub fits : at ≤ length d → end ≤ length d
+  pub past : length d < at → xs ≡ []
+  pub sound : allInRange xs ≡ true
 
 -- reading a text of whole read-backs: their number, each of them, and none past the last
 pub record Reads (xs : List Sheet) : Type 0 where
-  pub count : readBack (sentences xs) 0 ≡ readback.Count (length xs)
+  pub count : readBack (sentences xs) 0 ≡ gives (length xs, none)
   pub each :
       (k : ℕ) (z : Sheet) → k < length xs
-      → (f : Found) × ((readBack (sentences xs) (suc k) ≡ readback.Sheet (length xs) f) × (sheetIn (sentences xs) f ≡ getD xs k z))
-  pub past : (k : ℕ) → length xs ≤ k → readBack (sentences xs) (suc k) ≡ readback.NotThere
+      → (f : Found) × ((readBack (sentences xs) (suc k) ≡ gives (length xs, some f)) × (sheetIn (sentences xs) f ≡ getD xs k z))
+  pub past : (k : ℕ) → length xs ≤ k → readBack (sentences xs) (suc k) ≡ refuses 21 0
 
 -- any other text is refused at the first byte of the first line that is no read-back, whatever was asked for
 pub record Refuses (t : List ℕ) : Type 0 where
@@ -71,19 +81,23 @@ pub record Refuses (t : List ℕ) : Type 0 where
   pub split : t ≡ sentences front ++ rest
   pub more : rest ≡ [] → ⊥
   pub other : (x : Sheet) (l : List ℕ) → inRange x ≡ true → rest ≡ sentence x ++ l → ⊥
-  pub answer : (k : ℕ) → readBack t k ≡ readback.NotReadBack (length (sentences front))
+  pub answer : (k : ℕ) → readBack t k ≡ refuses 23 (length (sentences front))
 
 -- a text is made of whole read-backs
 abbrev pub IsReadBacks : List ℕ → Type 0
 IsReadBacks t = (xs : List Sheet) × ((allInRange xs ≡ true) × (t ≡ sentences xs))
 
 pub record Demand3 : Type 0 where
-  -- every list of writes
-  pub writes : (xs : List Sheet) (d : List ℕ) (at : ℕ) → WritesList xs d at
-  -- any two such lists with equal texts wrote the same sheets
+  -- every list of sheets can be written, from any start into any buffer
+  pub runs : (xs : List Sheet) (d : List ℕ) (at : ℕ) → (rs : List (Answer ℕ)) × ((e : List ℕ) × ((end : ℕ) × Run xs rs d at e end))
+  -- and every such run writes the sheets that are not refused
+  pub writes :
+      {xs : List Sheet} {rs : List (Answer ℕ)} {d e : List ℕ} {at end : ℕ}
+      → Run xs rs d at e end → Writes (notRefused xs rs) d at e end
+  -- any two with equal texts wrote the same sheets
   pub same :
-      (xs ys : List Sheet) (d e : List ℕ) (at start : ℕ) → textWritten xs d at ≡ textWritten ys e start
-      → sheetsWritten xs d at ≡ sheetsWritten ys e start
+      {xs ys : List Sheet} {rs qs : List (Answer ℕ)} {d c e f : List ℕ} {at start end last : ℕ}
+      → Run xs rs d at e end → Run ys qs c start f last → part e at end ≡ part f start last → notRefused xs rs ≡ notRefused ys qs
   -- the reader, on texts of whole read-backs
   pub reads : (xs : List Sheet) → allInRange xs ≡ true → Reads xs
   -- and on any bytes: whole read-backs, or refused, and never both

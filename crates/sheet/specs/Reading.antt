@@ -108,10 +108,6 @@ fromName l = afterWord (length (ascii ", name ")) (fromSender l)
 unfoldable pub fromParts : List ℕ → List ℕ
 fromParts l = afterWord 0 (fromName l)
 
--- where the sender and the name stand: what stands from there on reaches to the end of the text
-abbrev pub indexIn : List ℕ → List ℕ → ℕ
-indexIn l rest = length l - length rest
-
 -- a part, from ", part" on: from " of", the urgency, the severity, the certainty and what says how long it lasts on
 unfoldable pub fromTotal : List ℕ → List ℕ
 fromTotal l = restAfter (length (ascii ", part")) l
@@ -214,9 +210,9 @@ warnOf l = record {
 
 -- ---- a line
 
--- the word that leads the rest of a text, which stands at offset i
+-- the word that leads the rest of a text, which stands at offset i: the rest reaches to the text's end
 abbrev pub spanAt : ℕ → List ℕ → List ℕ → Span
-spanAt i l rest = record { start = i + indexIn l rest; len = wordLength rest }
+spanAt i l rest = record { start = i + (length l - length rest); len = wordLength rest }
 
 -- what a text that stands at offset i says, as far as it can be read
 unfoldable pub foundAt : ℕ → List ℕ → Found

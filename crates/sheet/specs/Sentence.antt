@@ -1,7 +1,9 @@
 -- The sentence of a sheet (document 01, "The sentence"). Numbers and durations bring the space in front of each of their words.
-use mathlib.Core.Bool.{Bool, cond}
-use mathlib.Core.List.{List, [], _++_}
+use mathlib.Core.Path.{_≡_}
+use mathlib.Core.Bool.{Bool, true, cond, _&&_}
+use mathlib.Core.List.{List, [], _∷_, _++_}
 use Prim.Native.Nat.{ℕ}
+use lib.Dec.{ltb}
 use Rattle.text.specs.Ascii.{ascii}
 use Rattle.words.specs.Words.{said}
 use Rattle.words.specs.Duration.{lasting}
@@ -84,6 +86,16 @@ module _ (w : Wording) where
 unfoldable pub sentence : Sheet → List ℕ
 sentence x = sentenceIn plain x
 
--- no sentence of a sheet in range is longer, its newline included
+-- "Read-backs are ASCII but for sender and name."
+unfoldable pub allAscii : List ℕ → Bool
+allAscii [] = true
+allAscii (b ∷ l) = ltb b 0x80 && allAscii l
+
+abbrev pub IsAsciiBut : Sheet → Type 0
+IsAsciiBut (cap f sender name) =
+    (a b c : List ℕ) × ((sentence (cap f sender name) ≡ a ++ (sender ++ (b ++ (name ++ c)))) × (allAscii (a ++ (b ++ c)) ≡ true))
+IsAsciiBut (warn x) = allAscii (sentence (warn x)) ≡ true
+
+-- the length of the longest sentence of a sheet in range, its newline included: proofs/Lengths.antt has a WARN sheet that reaches it
 abbrev pub longest : ℕ
-longest = 739
+longest = 651

@@ -5,7 +5,7 @@ use sheet::Span;
 use sheet::WriteSheet;
 use sheet::span_in;
 ghost use mathlib.Core.Path.{_≡_};
-ghost use Rattle.sheet.specs.Answers.{writeSheet, after};
+ghost use Rattle.sheet.specs.Answers.{writing, writeAnswer, after};
 ghost use Rattle.shown.specs.Slices.{senderIn, nameIn, sheetWith};
 
 // The facts of a CAP sheet, with where its sender and its name stand in a text.
@@ -37,7 +37,7 @@ pub fn name_in(text: &[u8], facts: Facts) -> &[u8]
 
 // Writes the sentence of the sheet that the facts make with a text. Plain parameters: who has a text and facts needs no sheet that holds a slice.
 pub fn write_shown(buffer: &mut [u8], start: usize, text: &[u8], facts: Facts) -> WriteSheet
-    ensures { λ r. ⌜ (r ≡ writeSheet (now (buffer .entry)) start (sheetWith (now (text .entry)) facts)) × (now (buffer .exit) ≡ after (now (buffer .entry)) start (sheetWith (now (text .entry)) facts)) ⌝ }
+    ensures { λ r. ⌜ (writeAnswer r ≡ writing (now (buffer .entry)) start (sheetWith (now (text .entry)) facts)) × (now (buffer .exit) ≡ after (now (buffer .entry)) start (sheetWith (now (text .entry)) facts)) ⌝ }
 {
     readback::write_cap(
         buffer,

@@ -15,7 +15,7 @@ use text::skip;
 use words::Quantity;
 ghost use mathlib.Core.Path.{_≡_};
 ghost use lib.ListN.{drop};
-ghost use Rattle.buffer.specs.Writing.{writeText, afterText};
+ghost use Rattle.buffer.specs.Writing.{writeText, textAnswer, afterText};
 ghost use Rattle.words.specs.Words.{words};
 ghost use Rattle.words.specs.Duration.{duration};
 ghost use Rattle.words.specs.Reading.{numberAt, durationAt};
@@ -28,7 +28,7 @@ const LONGEST_DURATION: usize = 116;
 
 // Writes a number in words from start on.
 pub fn write_number(buffer: &mut [u8], start: usize, n: u32) -> WriteText
-    ensures { λ r. ⌜ (r ≡ writeText (now (buffer .entry)) start (words n)) × (now (buffer .exit) ≡ afterText (now (buffer .entry)) start (words n)) ⌝ }
+    ensures { λ r. ⌜ (textAnswer r ≡ writeText (now (buffer .entry)) start (words n)) × (now (buffer .exit) ≡ afterText (now (buffer .entry)) start (words n)) ⌝ }
 {
     let mut own = [0u8; LONGEST_NUMBER];
     let k = put_number(&mut own, 0, n);
@@ -37,7 +37,7 @@ pub fn write_number(buffer: &mut [u8], start: usize, n: u32) -> WriteText
 
 // Writes a number of seconds in words from start on: nothing for 0 seconds.
 pub fn write_duration(buffer: &mut [u8], start: usize, seconds: u32) -> WriteText
-    ensures { λ r. ⌜ (r ≡ writeText (now (buffer .entry)) start (duration seconds)) × (now (buffer .exit) ≡ afterText (now (buffer .entry)) start (duration seconds)) ⌝ }
+    ensures { λ r. ⌜ (textAnswer r ≡ writeText (now (buffer .entry)) start (duration seconds)) × (now (buffer .exit) ≡ afterText (now (buffer .entry)) start (duration seconds)) ⌝ }
 {
     let mut own = [0u8; LONGEST_DURATION];
     let k = put_duration(&mut own, 0, seconds);

@@ -41,14 +41,14 @@ billion-le : (n : ℕ) → n < 5 → length (spaced (group n billion)) ≤ 14
 unfolding billion-fits
 billion-le n h = leb-true (length (spaced (group n billion))) 14 (below-at 5 billion-fits tt n h)
 
--- " forty seven thousand": the days in 2^32 seconds have at most forty nine
+-- " twenty three thousand": a number below 65,536 has at most sixty five
 thousand-fits : ℕ → Bool
 unfolding spaced word dictionary ones belowHundred belowThousand group
 thousand-fits n = leb (length (spaced (group n thousand))) 22
 
-thousands-le : (n : ℕ) → n < 50 → length (spaced (group n thousand)) ≤ 22
+thousands-le : (n : ℕ) → n < 66 → length (spaced (group n thousand)) ≤ 22
 unfolding thousand-fits
-thousands-le n h = leb-true (length (spaced (group n thousand))) 22 (below-at 50 thousand-fits tt n h)
+thousands-le n h = leb-true (length (spaced (group n thousand))) 22 (below-at 66 thousand-fits tt n h)
 
 -- ---- a number
 
@@ -88,6 +88,18 @@ said-le n h =
       thousand-le (n % 1_000) (omega arith),
     ))))
 
+-- 50: " twenty three thousand three hundred seventy three"
+pub short-le : (n : ℕ) → n < 65_536 → length (said n) ≤ 50
+unfolding spaced word dictionary
+short-le n h =
+    by-test (eqb n 0)
+    (λ e. rw (said-zero n (eqb-true n 0 e)) (omega arith))
+    (λ e.
+    rw
+    (said-some n (eqb-false n 0 e), group-none (n / 1_000_000_000) billion (omega arith), group-none (n / 1_000_000 % 1_000) million (omega arith))
+    (let k : n / 1_000 % 1_000 < 66 = omega arith in
+    simp length-append (omega (arith, thousands-le (n / 1_000 % 1_000) k, thousand-le (n % 1_000) (omega arith)))))
+
 -- ---- a duration
 
 counted-le :
@@ -111,26 +123,33 @@ sixty-le : (n : ℕ) → n < 60 → length (said n) ≤ 13
 unfolding sixty-fits
 sixty-le n h = leb-true (length (said n)) 13 (below-at 60 sixty-fits tt n h)
 
-days-le : (n : ℕ) → n < 50_000 → length (said n) ≤ 50
-unfolding spaced word dictionary
-days-le n h =
-    by-test (eqb n 0)
-    (λ e. rw (said-zero n (eqb-true n 0 e)) (omega arith))
-    (λ e.
-    rw
-    (said-some n (eqb-false n 0 e), group-none (n / 1_000_000_000) billion (omega arith), group-none (n / 1_000_000 % 1_000) million (omega arith))
-    (let k : n / 1_000 % 1_000 < 50 = omega arith in
-    simp length-append (omega (arith, thousands-le (n / 1_000 % 1_000) k, thousand-le (n % 1_000) (omega arith)))))
+-- " three hundred twenty three" as any number of days to 365
+year-fits : ℕ → Bool
+unfolding spaced word dictionary ones belowHundred belowThousand group numberCodes said
+year-fits n = leb (length (said n)) 27
 
-pub duration-le : (s : ℕ) → s < 4_294_967_296 → length (lasting s) ≤ 116
+year-le : (n : ℕ) → n < 366 → length (said n) ≤ 27
+unfolding year-fits
+year-le n h = leb-true (length (said n)) 27 (below-at 366 year-fits tt n h)
+
+-- 66 are " days", " twenty three hours", " twenty three minutes" and " twenty three seconds"
+days-then : (s k : ℕ) → length (said (s / 86_400)) ≤ k → length (lasting s) ≤ k + 66
 unfolding spaced word dictionary
-duration-le s h =
+days-then s k h =
     rw (lasting-parts s)
     (simp length-append
     (omega (
       arith,
-      counted-le (s / 86_400) day days 50 5 (days-le (s / 86_400) (omega arith)) (omega arith) (omega arith),
+      counted-le (s / 86_400) day days k 5 h (omega arith) (omega arith),
       counted-le (s / 3_600 % 24) hour hours 13 6 (sixty-le (s / 3_600 % 24) (omega arith)) (omega arith) (omega arith),
       counted-le (s / 60 % 60) minute minutes 13 8 (sixty-le (s / 60 % 60) (omega arith)) (omega arith) (omega arith),
       counted-le (s % 60) second seconds 13 8 (sixty-le (s % 60) (omega arith)) (omega arith) (omega arith),
     )))
+
+-- any duration: 2^32 seconds have 49,710 days
+pub duration-le : (s : ℕ) → s < 4_294_967_296 → length (lasting s) ≤ 116
+duration-le s h = days-then s 50 (short-le (s / 86_400) (omega arith))
+
+-- a lasting time
+pub lasting-le : (s : ℕ) → s ≤ 31_536_000 → length (lasting s) ≤ 93
+lasting-le s h = days-then s 27 (year-le (s / 86_400) (omega arith))

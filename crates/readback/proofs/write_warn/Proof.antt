@@ -7,7 +7,8 @@ use borrow.Author.Needs.{needs}
 use Rattle.sheet.specs.Sheet.{warn, inRange}
 use Rattle.sheet.specs.Sentence.{sentenceIn, sentence}
 use Rattle.sheet.proofs.Lengths.{sentence-le}
-use Rattle.readback.proofs.Answer.{answer-range, answer-no-room, answer-end, has-room, lacks-room}
+use Rattle.sheet.proofs.WriteOne.{refuse-range, refuse-room}
+use Rattle.readback.proofs.Answer.{answer-end, has-room, lacks-room}
 use Rattle.readback.proofs.write_warn.Statement.{statement}
 use Rattle.readback.proofs.write_warn.Tie as tie
 
@@ -23,7 +24,7 @@ unfolding sentence sentenceIn
 returns-3 c =
     let e = c .before .before in
     let r = lacks-room _ _ _ (e .if2 .left) (sym (c .before .warn-has-room .ensures) ∙ not-true _ (c .if3 .taken)) in
-    answer-no-room _ _ (warn _) (in-range (e .before)) r
+    refuse-room _ _ (warn _) (in-range (e .before)) r
 
 returns-4 : tie.Need-returns-4
 unfolding sentence sentenceIn
@@ -36,5 +37,5 @@ returns-4 c =
 pub write-warn-spec : {M : Type 1} → statement M
 write-warn-spec =
     tie.close
-    (tie.spec _ (λ c. answer-range _ _ _ (sym (c .before .is-warn .ensures) ∙ not-true _ (c .if1 .taken)))
-    (λ c. answer-no-room _ _ _ (in-range (c .before)) (omega arith)) room-requires returns-3 _ (λ c. search needs) returns-4)
+    (tie.spec _ (λ c. refuse-range _ _ _ (sym (c .before .is-warn .ensures) ∙ not-true _ (c .if1 .taken)))
+    (λ c. refuse-room _ _ _ (in-range (c .before)) (omega arith)) room-requires returns-3 _ (λ c. search needs) returns-4)

@@ -1,10 +1,12 @@
 -- Before each turn the answer from the offset i on, with n read-backs before it, is the answer to the whole text.
 use mathlib.Core.Path.{_≡_, sym, ap, _∙_}
+use mathlib.Core.Option.{some}
 use Prim.Native.Nat.{_+_, _-_, _≤_, _<_}
 use native.Mathlib.Omega.{arith}
 use lib.ListN.{length}
 use borrow.Author.Needs.{needs}
-use Rattle.sheet.specs.declared.ReadBack.the-variants as readback
+use Rattle.text.specs.Answers.{gives}
+use Rattle.sheet.specs.declared.Found.{Found}
 use Rattle.sheet.specs.Answers.{readBack}
 use Rattle.sheet.proofs.ReadLoop.{loop-start, loop-count, loop-sheet, loop-none}
 use Rattle.reader.proofs.Turns.{answerFrom, turn-room, turn-asked, turn-other, turn-stop}
@@ -80,7 +82,7 @@ returns-4 : tie.Need-returns-4 Inv-loop μ-loop
 returns-4 c =
     let l = c .before .before .before .before in
     let a = l .before .before .args in
-    ap (readback.Sheet (l .loop .n)) (c .found-at .ensures)
+    ap (λ (f : Found). gives (l .loop .n, some f)) (c .found-at .ensures)
     ∙ sym (loop-sheet (a .text .now) (a .k) (l .loop .i) _ _ (c .before .before .before .loop-test .left) (omega arith) (c .before .if3 .left))
     ∙ l .loop .inv .2
 

@@ -6,7 +6,7 @@ use denote.Ref.{now}
 use borrow.Author.Needs.{needs}
 use Rattle.sheet.specs.declared.CapFacts.{CapFacts}
 use Rattle.sheet.specs.Sheet.{Sheet, cap}
-use Rattle.sheet.specs.Answers.{writeSheet, after}
+use Rattle.sheet.specs.Answers.{writing, after}
 use Rattle.shown.proofs.write_shown.Tie as tie
 use Rattle.shown.proofs.write_shown.Statement.{statement}
 
@@ -19,7 +19,7 @@ returns c =
     let a = c .before .before .before .before .before .before .before .before .args in
     let sender = c .before .before .before .before .sender-in .ensures in
     let name = c .before .before .before .name-in .ensures in (
-      said-same (writeSheet (now (a .buffer)) (a .start)) (a .facts .facts) (c .before .before .write-cap .ensures .0) sender name,
+      said-same (writing (now (a .buffer)) (a .start)) (a .facts .facts) (c .before .before .write-cap .ensures .0) sender name,
       said-same (after (now (a .buffer)) (a .start)) (a .facts .facts) (c .before .before .write-cap .ensures .1) sender name,
     )
 
