@@ -1,9 +1,11 @@
 -- The numbers with which a sheet and the answer for a place are refused: the document's own, then 21 and 7, or 21 and 6; none is 0.
 use mathlib.Core.Path.{_≡_, refl, subst}
-use mathlib.Core.Bool.{Bool, true, false, cond, _&&_, _||_}
-use mathlib.Core.List.{List}
+use mathlib.Core.Bool.{Bool, cond, _&&_, _||_}
+use mathlib.Core.List.{List, _∷_}
+use mathlib.Core.Logic.{inl, inr}
 use Prim.Native.Nat.{ℕ}
-use lib.Dec.{T, eqb, leb}
+use lib.Dec.{eqb, leb}
+use types.Run.{OneOf}
 use lib.IntN.{ℤ, natAbs, _-ℤ_}
 use Rattle.text.specs.Answers.{Answer, gives, refuses, andThen, giving}
 use Rattle.text.specs.Logic.{cond-cases}
@@ -17,93 +19,89 @@ use Rattle.coordinates.specs.Place.{inRange}
 use Rattle.schema.specs.Classes as class
 use Rattle.document.specs.Elements.{Element, total}
 use Rattle.document.specs.Documents.{documentOf}
-use Rattle.document.proofs.Numbers.{isNumber}
+use Rattle.document.proofs.Numbers.{documentNumbers}
 use Rattle.document.proofs.Accepted.{refusal-numbers}
 use Rattle.parts.specs.Elements.{alertOf, partOf, lookUp, textSpan}
 use Rattle.parts.specs.Sheets.{startOf, between, lastsFrom, lastsOf, partFacts, sheetWith, partsOf, sheetOfPart, capSheet}
 use Rattle.parts.specs.Places.{Side, sideOf, anyShape, anyHolds, placedInPart, capPlace}
 
--- what holds of the number, where an answer is refused
-abbrev Refused : {A : Type 0} → (ℕ → Bool) → Answer A → Type 0
-Refused is (gives x) = Prim.Unit
-Refused is (refuses k q) = T (is k)
+-- the number is in the list, where an answer is refused
+abbrev Refused : {A : Type 0} → List ℕ → Answer A → Type 0
+Refused ks (gives x) = Prim.Unit
+Refused ks (refuses k q) = OneOf ks k
 
 -- "Drawing a sheet, after its packet's or document's own: 21, 7"
-abbrev pub sheetNumber : ℕ → Bool
-sheetNumber k = eqb k 21 || eqb k 7 || isNumber k
+abbrev pub sheetNumbers : List ℕ
+sheetNumbers = 21 ∷ 7 ∷ documentNumbers
 
 -- "Asking about a place, likewise: 21, 6"
-abbrev pub placeNumber : ℕ → Bool
-placeNumber k = eqb k 21 || eqb k 6 || isNumber k
+abbrev pub placeNumbers : List ℕ
+placeNumbers = 21 ∷ 6 ∷ documentNumbers
 
-or-right-T : (a b : Bool) → T b → T (a || b)
-or-right-T true b t = tt
-or-right-T false b t = t
+giving-refused : {A B : Type 0} (ks : List ℕ) (f : A → B) (r : Answer A) → Refused ks r → Refused ks (giving f r)
+giving-refused ks f (gives x) h = tt
+giving-refused ks f (refuses k q) h = h
 
-giving-refused : {A B : Type 0} (is : ℕ → Bool) (f : A → B) (r : Answer A) → Refused is r → Refused is (giving f r)
-giving-refused is f (gives x) h = tt
-giving-refused is f (refuses k q) h = h
-
-then-refused : {A B : Type 0} (is : ℕ → Bool) (r : Answer A) (f : A → Answer B) → Refused is r → ((x : A) → Refused is (f x)) → Refused is (andThen r f)
-then-refused is (gives x) f h g = g x
-then-refused is (refuses k q) f h g = h
+then-refused : {A B : Type 0} (ks : List ℕ) (r : Answer A) (f : A → Answer B) → Refused ks r → ((x : A) → Refused ks (f x)) → Refused ks (andThen r f)
+then-refused ks (gives x) f h g = g x
+then-refused ks (refuses k q) f h g = h
 
 -- a document's refusal, then what its elements lead to
 document-refused :
-    {B : Type 0} (is : ℕ → Bool) → ((k : ℕ) → T (isNumber k) → T (is k)) → (l : List ℕ) (f : List Element → Answer B)
-    → ((es : List Element) → Refused is (f es)) → Refused is (andThen (documentOf l) f)
-document-refused is own l f = then-refused is (documentOf l) f (go (documentOf l) refl)
+    {B : Type 0} (ks : List ℕ) → ((k : ℕ) → OneOf documentNumbers k → OneOf ks k) → (l : List ℕ) (f : List Element → Answer B)
+    → ((es : List Element) → Refused ks (f es)) → Refused ks (andThen (documentOf l) f)
+document-refused ks own l f = then-refused ks (documentOf l) f (go (documentOf l) refl)
   where
-    go : (v : Answer (List Element)) → documentOf l ≡ v → Refused is v
+    go : (v : Answer (List Element)) → documentOf l ≡ v → Refused ks v
     go (gives es) e = tt
     go (refuses k q) e = own k (refusal-numbers l k q e)
 
-lookup-refused : (is : ℕ → Bool) → T (is 21) → (n t : ℕ) → Refused is (lookUp n t)
+lookup-refused : (ks : List ℕ) → OneOf ks 21 → (n t : ℕ) → Refused ks (lookUp n t)
 unfolding lookUp
-lookup-refused is h n t =
-    cond-cases (Refused is) ((eqb n 0 && eqb t 0) || (leb 1 n && leb n t)) (gives n) (refuses 21 0) (λ e. tt) (λ e. h)
+lookup-refused ks h n t =
+    cond-cases (Refused ks) ((eqb n 0 && eqb t 0) || (leb 1 n && leb n t)) (gives n) (refuses 21 0) (λ e. tt) (λ e. h)
 
-lasts-refused : (start expires : Answer ℤ) → Refused sheetNumber (lastsFrom start expires)
+lasts-refused : (start expires : Answer ℤ) → Refused sheetNumbers (lastsFrom start expires)
 lasts-refused start (refuses n p) = tt
-lasts-refused (refuses n p) (gives e) = tt
+lasts-refused (refuses n p) (gives e) = inr (inl refl)
 lasts-refused (gives s) (gives e) =
-    cond-cases (Refused sheetNumber) (between (e -ℤ s)) (gives (lasting.Seconds (natAbs (e -ℤ s)))) (refuses 7 0) (λ b. tt) (λ b. tt)
+    cond-cases (Refused sheetNumbers) (between (e -ℤ s)) (gives (lasting.Seconds (natAbs (e -ℤ s)))) (refuses 7 0) (λ b. tt) (λ b. inr (inl refl))
 
-parts-refused : (l : List ℕ) (t : ℕ) (alert part : ℕ → Span) (k : ℕ) → Refused sheetNumber (partsOf l t alert part k)
+parts-refused : (l : List ℕ) (t : ℕ) (alert part : ℕ → Span) (k : ℕ) → Refused sheetNumbers (partsOf l t alert part k)
 unfolding lastsOf
 parts-refused l t alert part k =
-    cond-cases (Refused sheetNumber) (eqb k 0) _ _ (λ e. tt)
+    cond-cases (Refused sheetNumbers) (eqb k 0) _ _ (λ e. tt)
     (λ e.
-    giving-refused sheetNumber _ (lastsOf l alert part)
+    giving-refused sheetNumbers _ (lastsOf l alert part)
     (lasts-refused (startOf (timeOf (spanIn l (part class.effective))) (timeOf (spanIn l (alert class.sent)))) (timeOf (spanIn l (part class.expires)))))
 
 -- ---- the two answers
 
 module _ (n : ℕ) (l : List ℕ) where
-  pub sheet-numbers : (k q : ℕ) → capSheet n l ≡ refuses k q → T (sheetNumber k)
+  pub sheet-numbers : (k q : ℕ) → capSheet n l ≡ refuses k q → OneOf sheetNumbers k
   unfolding capSheet
   sheet-numbers k q e =
-      subst (Refused sheetNumber) e
-      (document-refused sheetNumber (λ k t. or-right-T (eqb k 21 || eqb k 7) (isNumber k) t) l
+      subst (Refused sheetNumbers) e
+      (document-refused sheetNumbers (λ k t. inr (inr t)) l
       (λ es. sheetOfPart l n (total es) (textSpan (alertOf es)) (textSpan (partOf n es))) part)
     where
-      part : (es : List Element) → Refused sheetNumber (sheetOfPart l n (total es) (textSpan (alertOf es)) (textSpan (partOf n es)))
+      part : (es : List Element) → Refused sheetNumbers (sheetOfPart l n (total es) (textSpan (alertOf es)) (textSpan (partOf n es)))
       part es =
           let ps = partsOf l (total es) (textSpan (alertOf es)) (textSpan (partOf n es)) in
-          giving-refused sheetNumber (sheetWith l (textSpan (alertOf es))) (andThen (lookUp n (total es)) ps)
-          (then-refused sheetNumber (lookUp n (total es)) ps (lookup-refused sheetNumber tt n (total es))
+          giving-refused sheetNumbers (sheetWith l (textSpan (alertOf es))) (andThen (lookUp n (total es)) ps)
+          (then-refused sheetNumbers (lookUp n (total es)) ps (lookup-refused sheetNumbers (inl refl) n (total es))
           (parts-refused l (total es) (textSpan (alertOf es)) (textSpan (partOf n es))))
 
-  pub place-numbers : (p : Place) (k q : ℕ) → capPlace n p l ≡ refuses k q → T (placeNumber k)
+  pub place-numbers : (p : Place) (k q : ℕ) → capPlace n p l ≡ refuses k q → OneOf placeNumbers k
   unfolding capPlace
   place-numbers p k q e =
-      subst (Refused placeNumber) e
-      (document-refused placeNumber (λ k t. or-right-T (eqb k 21 || eqb k 6) (isNumber k) t) l
+      subst (Refused placeNumbers) e
+      (document-refused placeNumbers (λ k t. inr (inr t)) l
       (λ es. placedInPart p n (total es) (anyHolds p (partOf n es)) (anyShape (partOf n es)))
       (λ es. part es (anyHolds p (partOf n es)) (anyShape (partOf n es))))
     where
-      part : (es : List Element) (holds any : Bool) → Refused placeNumber (placedInPart p n (total es) holds any)
+      part : (es : List Element) (holds any : Bool) → Refused placeNumbers (placedInPart p n (total es) holds any)
       part es holds any =
-          then-refused placeNumber (lookUp n (total es)) (λ (k : ℕ). cond (inRange p) (gives (sideOf holds any)) (refuses 6 0))
-          (lookup-refused placeNumber tt n (total es))
-          (λ k. cond-cases (Refused placeNumber) (inRange p) (gives (sideOf holds any)) (refuses 6 0) (λ b. tt) (λ b. tt))
+          then-refused placeNumbers (lookUp n (total es)) (λ (k : ℕ). cond (inRange p) (gives (sideOf holds any)) (refuses 6 0))
+          (lookup-refused placeNumbers (inl refl) n (total es))
+          (λ k. cond-cases (Refused placeNumbers) (inRange p) (gives (sideOf holds any)) (refuses 6 0) (λ b. tt) (λ b. inr (inl refl)))

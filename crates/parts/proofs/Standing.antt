@@ -14,10 +14,9 @@ use Rattle.schema.specs.Sequences.{particles, indexIn, follows, nextIn, nextOf,
 use Rattle.schema.proofs.Table.{inside}
 use Rattle.document.specs.Elements.{Element, opened, text, closed, isStart, starts, total}
 use Rattle.document.specs.Documents.{documentOf}
-use Rattle.document.specs.Following.{follow}
 use Rattle.document.proofs.Accepted.{Every}
 use Rattle.document.proofs.Sound.{Sorted, all-sorted}
-use Rattle.document.proofs.Schema.{follows-schema, taken, ended-right}
+use Rattle.document.proofs.Schema.{follow, follows-schema, taken, ended-right}
 use Rattle.parts.specs.Elements.{within, alertOf, partOf}
 
 -- how many texts of a class stand among elements
@@ -164,7 +163,7 @@ module _ (c : ℕ) (leaf : class.lastContainer < c) (low high : ℕ → ℕ) (t 
       (s : ℕ) (x : Element) (es : List Element) → isStart class.info x ≡ false → Sorted x → (nextOf s (classOf x) ≡ 0 → ⊥)
       → Between (nextOf s (classOf x)) es → Between s (x ∷ es)
   unfolding many
-  at-element s (opened d p) es e o n b = let r = other s d es n e o b in (omega (arith, r), omega (arith, r))
+  at-element s (opened d p) es e o n b = let r = other s d es n e (o .1) b in (omega (arith, r), omega (arith, r))
   at-element s (text d p t) es e o n b =
       let r = step s d n (ne-eqb d class.info (λ q. omega (arith, o, q))) in
       (omega (arith, r, b), omega (arith, r, b))
