@@ -1,6 +1,6 @@
 -- The way from a centre to a place: cosines, squares, and the answer by cases. A signed value that a callee was passed is read back: `read w32`.
 use mathlib.Core.Path.{_≡_, sym, ap, _∙_}
-use mathlib.Core.Bool.{Bool, false, cond}
+use mathlib.Core.Bool.{Bool, false}
 use Prim.Native.Nat.{ℕ, _+_, _*_, _/_, _≤_, _<_}
 use native.Mathlib.Nat.{mul-le-mul, mul-lt-mul-of-pos-right, le-of-lt, le-refl, lt-of-le-of-lt}
 use native.Mathlib.Omega.{arith}
@@ -11,8 +11,8 @@ use lib.Signed.{mag}
 use mir.Syntax.{w32, w64}
 use mir.Val.{Fits, SFits}
 use mir.Facts.{toZ-ofZ}
+use Rattle.text.specs.Answers.{gives, refuses}
 use Rattle.coordinates.specs.declared.Place.{Place}
-use Rattle.coordinates.specs.declared.Inclusion.the-variants.{Inside, Outside, Fault}
 use Rattle.integers.specs.Bits.{read, read-given, apart}
 use Rattle.integers.specs.Magnitude.{abs-sub-zero}
 use Rattle.circle.specs.Cosine.{cosines}
@@ -72,7 +72,7 @@ module _ (clat clon lat lon : ℤ) (u : ℕ) (f₁ : SFits w32 clat) (f₂ : SFi
 -- ---- the answer
 
 module _ (c : Place) (metres : ℕ) (p : Place) where
-  pub too-wide : 20_000_000 < metres → Fault ≡ aroundHolds c metres p
+  pub too-wide : 20_000_000 < metres → refuses 22 0 ≡ aroundHolds c metres p
   unfolding aroundHolds
   too-wide h = rw (lt-leb metres 20_000_000 h)
 
@@ -85,6 +85,6 @@ module _ (c : Place) (metres : ℕ) (p : Place) where
     plain = er ∙ simp (read-given w32, eu)
 
     -- the answer, by whether the place is near
-    pub is-side : aroundHolds c metres p ≡ cond r Inside Outside
+    pub is-side : aroundHolds c metres p ≡ gives r
     unfolding aroundHolds
     is-side = rw (le-leb metres 20_000_000 h, ← plain)

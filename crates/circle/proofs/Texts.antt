@@ -8,31 +8,46 @@ use native.Mathlib.Nat.{add-sub-cancel-left, zero-add}
 use native.Mathlib.Omega.{arith}
 use lib.ListN.{length, take, drop, length-drop, drop-of-length-le}
 use lib.Seq.{drop-drop}
+use Rattle.text.specs.Answers.{Answer, gives, refuses}
 use Rattle.text.specs.Bytes.{spaces, dropSpace}
+use Rattle.text.specs.Logic.{cond-cases}
 use Rattle.text.specs.Tokens.{onToken, tokens, tokenLength}
 use Rattle.text.proofs.Laws.{tokens-space, tokens-next, token-or-end, spaces-within, token-within}
-use Rattle.coordinates.specs.declared.Pair.{Pair}
-use Rattle.coordinates.specs.declared.Pair.the-variants as pair
-use Rattle.coordinates.specs.declared.Radius.{Radius}
-use Rattle.coordinates.specs.declared.Radius.the-variants as radius
+use Rattle.coordinates.specs.declared.Place.{Place}
 use Rattle.coordinates.specs.Place.{pairOf, coordinateAt}
-use Rattle.coordinates.specs.Decimal.{radiusOf, isDecimal, places, leads}
-use Rattle.circle.specs.declared.Circle.{Circle}
-use Rattle.circle.specs.declared.Circle.the-variants as circle
+use Rattle.coordinates.specs.Decimal.{radiusOf, isRadius, scaled, isDecimal, places, leads}
+use Rattle.coordinates.proofs.Readers.{pair-cases}
 use Rattle.circle.specs.Circle.{circleFrom, circleTokens, circleOf}
 
 -- an empty text is neither a pair nor a radius
-pair-empty : pairOf [] ≡ pair.Fault
+pair-empty : pairOf [] ≡ refuses 22 0
 unfolding pairOf coordinateAt isDecimal places leads
 pair-empty = refl
 
-radius-empty : radiusOf [] ≡ radius.Fault
+radius-empty : radiusOf [] ≡ refuses 22 0
 unfolding radiusOf isDecimal
 radius-empty = refl
 
-no-radius : (p : Pair) → circleFrom p radius.Fault ≡ circle.Fault
-no-radius (pair.At p) = refl
-no-radius pair.Fault = refl
+-- and without a radius there is no circle, whatever the pair
+no-radius : (t : List ℕ) → circleFrom (pairOf t) (refuses 22 0) ≡ refuses 22 0
+no-radius t = pair-cases t (λ a. circleFrom a (refuses 22 0) ≡ refuses 22 0) (λ p. refl) refl
+
+-- a text is a circle, or it is refused with 22
+pub circle-cases : (l : List ℕ) (P : Answer (Place × ℕ) → Type 0) → ((c : Place) (m : ℕ) → P (gives (c, m))) → P (refuses 22 0) → P (circleOf l)
+unfolding circleOf circleTokens radiusOf
+circle-cases l P f g = go (tokens l)
+  where
+    around : (a b : List ℕ) → P (circleFrom (pairOf a) (radiusOf b))
+    around a b =
+        pair-cases a (λ p. P (circleFrom p (radiusOf b)))
+        (λ c. cond-cases (λ r. P (circleFrom (gives c) r)) (isRadius b) (gives (scaled 3 b)) (refuses 22 0) (λ t. f c (scaled 3 b)) (λ t. g))
+        g
+
+    go : (ts : List (List ℕ)) → P (circleTokens ts)
+    go [] = g
+    go (a ∷ []) = g
+    go (a ∷ b ∷ []) = around a b
+    go (a ∷ b ∷ c ∷ ts) = g
 
 -- the first token of a text, and what stands after it; both empty where it has none
 abbrev token : List ℕ → List ℕ
@@ -55,13 +70,13 @@ circle-two l e =
     ⊎-elim
     (λ n. let q = none l n in rw (q .0, q .1 .0, pair-empty))
     (λ s. ⊎-elim
-    (λ n. let q = none (after l) n in rw (some l s, q .0, q .1 .0, radius-empty) (sym (no-radius (pairOf (token l)))))
+    (λ n. let q = none (after l) n in rw (some l s, q .0, q .1 .0, radius-empty) (sym (no-radius (token l))))
     (λ t. rw (some l s, some (after l) t, none (after (after l)) e .0))
     (token-or-end (after l)))
     (token-or-end l)
 
 -- a third token
-circle-more : (l : List ℕ) → onToken (dropSpace (after (after l))) ≡ true → circleOf l ≡ circle.Fault
+circle-more : (l : List ℕ) → onToken (dropSpace (after (after l))) ≡ true → circleOf l ≡ refuses 22 0
 unfolding circleOf circleTokens
 circle-more l e =
     ⊎-elim
@@ -113,7 +128,7 @@ module _ (s : List ℕ) (a b c d : ℕ) (ea : a ≡ 0 + spaces (drop 0 s)) (eb :
     from-e : drop e s ≡ dropSpace (after (after s))
     from-e = ap (λ (i : ℕ). drop i s) ee ∙ sym (drop-drop (spaces (drop d s)) d s) ∙ rw from-d
 
-    pub text-more : (e ≡ length s → ⊥) → circle.Fault ≡ circleOf s
+    pub text-more : (e ≡ length s → ⊥) → refuses 22 0 ≡ circleOf s
     text-more n =
         ⊎-elim
         (λ z. absurd (n (reached (rw ee (spaces-within s d within-d)) (sym (length-drop e s) ∙ ap length (from-e ∙ z)))))
@@ -124,8 +139,8 @@ module _ (s : List ℕ) (a b c d : ℕ) (ea : a ≡ 0 + spaces (drop 0 s)) (eb :
         reached h q = omega arith
 
     pub text-two :
-        e ≡ length s → (p : Pair) (r : Radius) (o : Circle) → p ≡ pairOf (take (b - a) (drop a s)) → r ≡ radiusOf (take (d - c) (drop c s))
-        → o ≡ circleFrom p r → o ≡ circleOf s
+        e ≡ length s → (p : Answer Place) (r : Answer ℕ) (o : Answer (Place × ℕ)) → p ≡ pairOf (take (b - a) (drop a s))
+        → r ≡ radiusOf (take (d - c) (drop c s)) → o ≡ circleFrom p r → o ≡ circleOf s
     text-two q p r o ep er eo =
         let z : dropSpace (after (after s)) ≡ [] = sym from-e ∙ drop-of-length-le s {i = e} (omega arith) in
         eo ∙ rw (ep, er, first-is, second-is) (sym (circle-two s z))

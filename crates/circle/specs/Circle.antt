@@ -5,35 +5,33 @@ use Prim.Native.Nat.{ℕ, _+_, _*_, _/_}
 use lib.Dec.{leb}
 use lib.IntN.{ℤ, natAbs, _-ℤ_}
 use lib.ListN.{getD}
+use Rattle.text.specs.Answers.{Answer, gives, refuses, andThen, giving}
 use Rattle.text.specs.Tokens.{tokens}
 use Rattle.coordinates.specs.declared.Place.{Place}
-use Rattle.coordinates.specs.declared.Pair.{Pair}
-use Rattle.coordinates.specs.declared.Pair.the-variants as pair
-use Rattle.coordinates.specs.declared.Radius.{Radius}
-use Rattle.coordinates.specs.declared.Radius.the-variants as radius
-use Rattle.coordinates.specs.declared.Inclusion.{Inclusion}
-use Rattle.coordinates.specs.declared.Inclusion.the-variants.{Inside, Outside, Fault}
 use Rattle.coordinates.specs.Place.{pairOf}
 use Rattle.coordinates.specs.Decimal.{radiusOf}
 use Rattle.circle.specs.declared.Circle.{Circle}
-use Rattle.circle.specs.declared.Circle.the-variants as circle
+use Rattle.circle.specs.declared.Circle.the-variants.{Around, Fault}
 use Rattle.circle.specs.Cosine.{cosines}
 
 -- ---- "A circle is a pair, white space and a radius, white space leading and trailing alike": two tokens
 
-abbrev pub circleFrom : Pair → Radius → Circle
-circleFrom (pair.At p) (radius.Metres m) = circle.Around p m
-circleFrom (pair.At p) radius.Fault = circle.Fault
-circleFrom pair.Fault r = circle.Fault
+-- the centre and the radius in metres; 22 is "polygon or circle text"
+abbrev pub circleFrom : Answer Place → Answer ℕ → Answer (Place × ℕ)
+circleFrom p r = andThen p (λ c. giving (λ m. (c, m)) r)
 
-unfoldable pub circleTokens : List (List ℕ) → Circle
-circleTokens [] = circle.Fault
-circleTokens (a ∷ []) = circle.Fault
+unfoldable pub circleTokens : List (List ℕ) → Answer (Place × ℕ)
+circleTokens [] = refuses 22 0
+circleTokens (a ∷ []) = refuses 22 0
 circleTokens (a ∷ b ∷ []) = circleFrom (pairOf a) (radiusOf b)
-circleTokens (a ∷ b ∷ c ∷ l) = circle.Fault
+circleTokens (a ∷ b ∷ c ∷ l) = refuses 22 0
 
-unfoldable pub circleOf : List ℕ → Circle
+unfoldable pub circleOf : List ℕ → Answer (Place × ℕ)
 circleOf l = circleTokens (tokens l)
+
+abbrev pub circleAnswer : Circle → Answer (Place × ℕ)
+circleAnswer (Around c m) = gives (c, m)
+circleAnswer Fault = refuses 22 0
 
 -- ---- the radius, and the way from the centre to a place, in units of 1e-7 degree
 
@@ -67,13 +65,9 @@ inCircle c metres p = withinSquares (longitudeScaled c p) (latitudeApart c p) (u
 -- ---- the answers
 
 -- whether the circle of a centre and a radius holds a place; a radius is at most 20,000 km
-unfoldable pub aroundHolds : Place → ℕ → Place → Inclusion
-aroundHolds c metres p = cond (leb metres 20_000_000) (cond (inCircle c metres p) Inside Outside) Fault
-
-abbrev pub holdsIn : Circle → Place → Inclusion
-holdsIn (circle.Around c metres) p = aroundHolds c metres p
-holdsIn circle.Fault p = Fault
+unfoldable pub aroundHolds : Place → ℕ → Place → Answer Bool
+aroundHolds c metres p = cond (leb metres 20_000_000) (gives (inCircle c metres p)) (refuses 22 0)
 
 -- whether the circle of a text holds a place
-unfoldable pub circleHolds : List ℕ → Place → Inclusion
-circleHolds l p = holdsIn (circleOf l) p
+unfoldable pub circleHolds : List ℕ → Place → Answer Bool
+circleHolds l p = andThen (circleOf l) (λ c. aroundHolds (c .0) (c .1) p)

@@ -9,8 +9,9 @@ ghost use mathlib.Core.Path.{_≡_};
 ghost use Prim.Native.Nat.{_*_, _/_, _≤_};
 ghost use lib.IntN.{natAbs, _-ℤ_};
 ghost use lib.ListN.{getD};
+ghost use Rattle.coordinates.specs.Answers.{pairAnswer, radiusAnswer, inclusionAnswer};
 ghost use Rattle.circle.specs.Cosine.{cosines};
-ghost use Rattle.circle.specs.Circle.{cosineAt, unitsOf, withinSquares, aroundHolds, circleFrom, circleOf, circleHolds};
+ghost use Rattle.circle.specs.Circle.{cosineAt, unitsOf, withinSquares, aroundHolds, circleFrom, circleOf, circleAnswer, circleHolds};
 
 // A circle that a text writes: its centre and its radius in metres.
 pub enum Circle {
@@ -81,7 +82,7 @@ fn is_near(centre_lat: i32, centre_lon: i32, u: u64, lat: i32, lon: i32) -> bool
 
 // Whether the circle of a centre and a radius holds a place. A radius above 20,000 km makes no circle.
 pub fn around_holds(centre: Place, metres: u32, place: Place) -> Inclusion
-    ensures { λ r. ⌜ r ≡ aroundHolds centre metres place ⌝ }
+    ensures { λ r. ⌜ inclusionAnswer r ≡ aroundHolds centre metres place ⌝ }
 {
     if 20000000 < metres {
         return Inclusion::Fault;
@@ -99,7 +100,7 @@ pub fn around_holds(centre: Place, metres: u32, place: Place) -> Inclusion
 }
 
 fn circle_from(p: Pair, r: Radius) -> Circle
-    ensures { λ o. ⌜ o ≡ circleFrom p r ⌝ }
+    ensures { λ o. ⌜ circleAnswer o ≡ circleFrom (pairAnswer p) (radiusAnswer r) ⌝ }
 {
     let Pair::At(centre) = p else {
         return Circle::Fault;
@@ -112,7 +113,7 @@ fn circle_from(p: Pair, r: Radius) -> Circle
 
 // The circle that a text writes: a pair and a radius, with white space between, before and after.
 pub fn read_circle(s: &[u8]) -> Circle
-    ensures { λ r. ⌜ r ≡ circleOf (now (s .entry)) ⌝ }
+    ensures { λ r. ⌜ circleAnswer r ≡ circleOf (now (s .entry)) ⌝ }
 {
     let a = text::skip_space(s, 0);
     let b = text::token_end(s, a);
@@ -128,7 +129,7 @@ pub fn read_circle(s: &[u8]) -> Circle
 
 // Whether the circle of a text holds a place.
 pub fn circle_holds(s: &[u8], place: Place) -> Inclusion
-    ensures { λ r. ⌜ r ≡ circleHolds (now (s .entry)) place ⌝ }
+    ensures { λ r. ⌜ inclusionAnswer r ≡ circleHolds (now (s .entry)) place ⌝ }
 {
     let c = read_circle(s);
     match c {

@@ -5,7 +5,7 @@ use mathlib.Core.List.{List}
 use Prim.Native.Char.{code}
 use Prim.Native.Nat.{ℕ, _+_, _-_, _≤_, _<_}
 use native.Mathlib.Omega.{arith}
-use borrow.Author.Tests.{le-leb, lt-leb}
+use borrow.Author.Tests.{eq-eqb, ne-eqb, le-leb, lt-leb}
 use lib.ListN.{length, drop}
 use lib.Seq.{drop-drop}
 use lib.IntN.{ℤ, pos, negℤ, _-ℤ_, +ℤ-idl}
@@ -13,11 +13,12 @@ use lib.Signed.{mag}
 use mir.Syntax.{w32}
 use mir.Val.{SFits, toZ, ofZ}
 use mir.Facts.{toZ-pos, toZ-ofZ}
+use Rattle.text.specs.Answers.{gives, refuses}
 use Rattle.text.specs.Logic.{by-test, first-arm, second-arm, clash}
 use Rattle.integers.specs.Magnitude.{abs-neg, signed}
 use Rattle.integers.specs.Bits.{read, read-given, fits-abs}
 use Rattle.coordinates.specs.Decimal.{leads, scaled, decimalLength, decimalAt}
-use Rattle.coordinates.specs.Place.{signLength, unsigned, isCoordinate, coordinateValue, coordinateAt}
+use Rattle.coordinates.specs.Place.{signLength, unsigned, isCoordinate, coordinateValue, coordinateLength, coordinateAt, degreesOf}
 use Rattle.coordinates.specs.declared.Decimal.the-variants as decimal
 use Rattle.coordinates.specs.declared.Coordinate.the-variants.{Value, Fault}
 use Rattle.coordinates.proofs.Leading.{leads-in}
@@ -95,7 +96,7 @@ module _ (s : List ℕ) (at limit start : ℕ) (b : start ≡ at + signLength (d
 pub record Measured (limit i : ℕ) (l : List ℕ) (z : ℤ) (e : ℕ) : Type 0 where
   pub is : isCoordinate limit l ≡ true
   pub value : z ≡ coordinateValue l
-  pub end : e ≡ i + (signLength l + decimalLength (unsigned l))
+  pub end : e ≡ i + coordinateLength l
 
 module _ (limit i : ℕ) (l : List ℕ) where
   pub measured : (z : ℤ) (e : ℕ) → coordinateAt limit i l ≡ Value z e → Measured limit i l z e
@@ -106,17 +107,22 @@ module _ (limit i : ℕ) (l : List ℕ) where
   unfolding coordinateAt
   not-measured q = second-arm _ _ _ (isCoordinate limit l) q (λ p. fault≢value _ _ (sym p))
 
-  -- the same coordinate, in a text that stands at offset j
-  pub coordinate-moved : (j : ℕ) (z : ℤ) (e : ℕ) → coordinateAt limit i l ≡ Value z e → coordinateAt limit j l ≡ Value z (j + (e - i))
-  unfolding coordinateAt
-  coordinate-moved j z e q =
-      let m = measured z e q in
-      let k : j + (signLength l + decimalLength (unsigned l)) ≡ j + (e - i) = omega (arith, m .end) in
-      rw (m .is, m .value, k)
+-- ---- a coordinate that is the whole text
 
-  pub fault-moved : (j : ℕ) → coordinateAt limit i l ≡ Fault → coordinateAt limit j l ≡ Fault
-  unfolding coordinateAt
-  fault-moved j q = rw (not-measured q)
+module _ (limit : ℕ) (l : List ℕ) where
+  pub no-degrees : coordinateAt limit 0 l ≡ Fault → refuses 22 0 ≡ degreesOf limit l
+  unfolding degreesOf
+  no-degrees q = rw (not-measured limit 0 l q)
 
-  pub coordinate-start : (z : ℤ) (e : ℕ) → coordinateAt limit i l ≡ Value z e → i ≤ e
-  coordinate-start z e q = omega (arith, measured z e q .end)
+  module _ (z : ℤ) (e : ℕ) (q : coordinateAt limit 0 l ≡ Value z e) where
+    pub degrees-part : (e ≡ length l → ⊥) → refuses 22 0 ≡ degreesOf limit l
+    unfolding degreesOf
+    degrees-part n =
+        let m = measured limit 0 l z e q in
+        rw (m .is, ne-eqb (coordinateLength l) (length l) (λ p. n (omega (arith, m .end, p))))
+
+    pub degrees-whole : e ≡ length l → gives z ≡ degreesOf limit l
+    unfolding degreesOf
+    degrees-whole n =
+        let m = measured limit 0 l z e q in
+        rw (m .is, eq-eqb (coordinateLength l) (length l) (omega (arith, m .end)), m .value)

@@ -2,12 +2,11 @@
 use mathlib.Core.Path.{_≡_, sym, _∙_}
 use mathlib.Core.Bool.{true, false, false≢true}
 use mathlib.Core.List.{List}
-use Prim.Native.Nat.{ℕ, _-_, _≤_, _<_}
-use native.Mathlib.Nat.{add-sub-of-le}
+use Prim.Native.Nat.{ℕ, _≤_, _<_}
 use borrow.Author.Tests.{ltb-true, ltb-false}
 use lib.Dec.{eqb, ltb}
 use lib.ListN.{length, getD, drop, drop-of-length-le}
-use lib.Seq.{drop-cons, drop-drop}
+use lib.Seq.{drop-cons}
 use Rattle.text.specs.Logic.{by-test}
 use Rattle.coordinates.specs.Decimal.{leads}
 
@@ -26,7 +25,3 @@ module _ (s : List ℕ) (i b : ℕ) where
       by-test (ltb i (length s))
       (λ t. ltb-true i (length s) t)
       (λ t. absurd (false≢true (sym (leads-none (ltb-false i (length s) t)) ∙ e)))
-
--- what stands at an offset of the rest from i on, by its offset in the text
-pub drop-after : (s : List ℕ) (i e : ℕ) → i ≤ e → drop (e - i) (drop i s) ≡ drop e s
-drop-after s i e h = drop-drop (e - i) i s ∙ rw (add-sub-of-le h)

@@ -1,87 +1,102 @@
 -- Pairs that lead a text, by each way through their reader, and pairs that are a whole text.
-use mathlib.Core.Path.{_≡_, refl, ap, _∙_}
-use mathlib.Core.Bool.{true, false}
+use mathlib.Core.Path.{_≡_, sym, ap, _∙_}
+use mathlib.Core.Bool.{true, false, _&&_}
 use mathlib.Core.List.{List}
 use Prim.Native.Char.{code}
-use Prim.Native.Nat.{ℕ, _+_, _-_, _≤_, _<_}
-use native.Mathlib.Nat.{zero-add}
+use Prim.Native.Nat.{ℕ, _+_, _<_}
 use native.Mathlib.Omega.{arith}
 use borrow.Author.Tests.{eq-eqb, ne-eqb}
+use lib.Dec.{eqb}
 use lib.IntN.{ℤ}
 use lib.Signed.{mag}
 use lib.ListN.{length, drop}
+use lib.Seq.{drop-drop}
 use mir.Syntax.{w32}
-use Rattle.text.specs.Logic.{clash}
+use Rattle.text.specs.Answers.{Answer, gives, refuses}
+use Rattle.text.specs.Logic.{cond-cases, first-arm, second-arm, clash}
 use Rattle.integers.specs.Bits.{read, read-given}
 use Rattle.coordinates.specs.Decimal.{leads}
-use Rattle.coordinates.specs.Place.{latitudeLimit, longitudeLimit, coordinateAt, leadingPair, standingAt, pairOf}
+use Rattle.coordinates.specs.Place.{latitudeLimit, longitudeLimit, coordinateLength, coordinateAt, afterComma, isPair, pairValue, pairLength, pairAt, pairOf}
 use Rattle.coordinates.specs.declared.Coordinate.the-variants as coordinate
 use Rattle.coordinates.specs.declared.Place.{Place}
-use Rattle.coordinates.specs.declared.Pair.the-variants as pair
-use Rattle.coordinates.specs.declared.LeadingPair.{LeadingPair}
 use Rattle.coordinates.specs.declared.LeadingPair.the-variants as leading
-use Rattle.coordinates.proofs.Leading.{drop-after}
-use Rattle.coordinates.proofs.Coordinates.{coordinate-moved, fault-moved, coordinate-start}
+use Rattle.coordinates.proofs.Coordinates.{Measured, measured, not-measured}
 
 -- ---- a pair that leads the text from offset i on
 
 module _ (s : List ℕ) (i : ℕ) where
-  pub no-latitude : coordinateAt latitudeLimit i (drop i s) ≡ coordinate.Fault → leading.Fault ≡ standingAt i (leadingPair (drop i s))
-  no-latitude q = rw (fault-moved latitudeLimit i (drop i s) 0 q)
+  pub no-latitude : coordinateAt latitudeLimit i (drop i s) ≡ coordinate.Fault → leading.Fault ≡ pairAt i (drop i s)
+  unfolding pairAt
+  no-latitude q = rw (not-measured latitudeLimit i (drop i s) q)
 
   module _ (y : ℤ) (e : ℕ) (q : coordinateAt latitudeLimit i (drop i s) ≡ coordinate.Value y e) where
-    start : i ≤ e
-    start = coordinate-start latitudeLimit i (drop i s) y e q
+    latitude : Measured latitudeLimit i (drop i s) y e
+    latitude = measured latitudeLimit i (drop i s) y e q
 
-    latitude : coordinateAt latitudeLimit 0 (drop i s) ≡ coordinate.Value y (e - i)
-    latitude = coordinate-moved latitudeLimit i (drop i s) 0 y e q ∙ ap (coordinate.Value y) (zero-add (e - i))
+    comma : drop (coordinateLength (drop i s)) (drop i s) ≡ drop e s
+    comma = drop-drop (coordinateLength (drop i s)) i s ∙ ap (λ (k : ℕ). drop k s) (sym (latitude .end))
 
-    comma : drop (e - i) (drop i s) ≡ drop e s
-    comma = drop-after s i e start
+    rest : afterComma (drop i s) ≡ drop (e + 1) s
+    rest =
+        let n : i + (coordinateLength (drop i s) + 1) ≡ e + 1 = omega (arith, latitude .end) in
+        drop-drop (coordinateLength (drop i s) + 1) i s ∙ ap (λ (k : ℕ). drop k s) n
 
-    rest : drop (e - i + 1) (drop i s) ≡ drop (e + 1) s
-    rest = let n : e - i + 1 ≡ e + 1 - i = omega (arith, start) in rw n (drop-after s i (e + 1) (omega (arith, start)))
-
-    pub no-comma : leads (code ",") (drop e s) ≡ false → leading.Fault ≡ standingAt i (leadingPair (drop i s))
-    no-comma h = rw (latitude, comma, h)
+    pub no-comma : leads (code ",") (drop e s) ≡ false → leading.Fault ≡ pairAt i (drop i s)
+    unfolding pairAt
+    no-comma h = rw (latitude .is, comma, h)
 
     module _ (h : leads (code ",") (drop e s) ≡ true) where
-      pub no-longitude :
-          coordinateAt longitudeLimit (e + 1) (drop (e + 1) s) ≡ coordinate.Fault → leading.Fault ≡ standingAt i (leadingPair (drop i s))
-      no-longitude d = rw (latitude, comma, h, rest, fault-moved longitudeLimit (e + 1) (drop (e + 1) s) (e - i + 1) d)
+      pub no-longitude : coordinateAt longitudeLimit (e + 1) (drop (e + 1) s) ≡ coordinate.Fault → leading.Fault ≡ pairAt i (drop i s)
+      unfolding pairAt
+      no-longitude d = rw (latitude .is, comma, h, rest, not-measured longitudeLimit (e + 1) (drop (e + 1) s) d)
 
       pub both :
           (x : ℤ) (k : ℕ) → coordinateAt longitudeLimit (e + 1) (drop (e + 1) s) ≡ coordinate.Value x k → mag y < 2_147_483_648
-          → mag x < 2_147_483_648 → leading.At (record { lat = read w32 y; lon = read w32 x }) k ≡ standingAt i (leadingPair (drop i s))
+          → mag x < 2_147_483_648 → leading.At (record { lat = read w32 y; lon = read w32 x }) k ≡ pairAt i (drop i s)
+      unfolding pairAt
       both x k d gy gx =
-          let n : k ≡ i + (e - i + 1 + (k - (e + 1))) = omega (arith, start, coordinate-start longitudeLimit (e + 1) (drop (e + 1) s) x k d) in
-          rw (latitude, comma, h, rest, coordinate-moved longitudeLimit (e + 1) (drop (e + 1) s) (e - i + 1) x k d, ← n) (simp (read-given w32))
+          let m = measured longitudeLimit (e + 1) (drop (e + 1) s) x k d in
+          let n : i + (coordinateLength (drop i s) + 1 + coordinateLength (drop (e + 1) s)) ≡ k = omega (arith, latitude .end, m .end) in
+          rw (latitude .is, comma, h, rest, m .is, n, ← latitude .value, ← m .value) (simp (read-given w32))
 
--- ---- a pair, from what stands at offset i
+-- ---- what a pair that was read says
 
-pub stands-none : (i : ℕ) (o : LeadingPair) → standingAt i o ≡ leading.Fault → o ≡ leading.Fault
-stands-none i (leading.At q n) h = cc
-stands-none i leading.Fault h = refl
+-- p is the pair at offset i, and e the offset after it
+pub record Paired (i : ℕ) (l : List ℕ) (p : Place) (e : ℕ) : Type 0 where
+  pub is : isPair l ≡ true
+  pub value : p ≡ pairValue l
+  pub end : e ≡ i + pairLength l
 
-pub stands-at : (i : ℕ) (o : LeadingPair) (p : Place) (e : ℕ) → standingAt i o ≡ leading.At p e → (o ≡ leading.At p (e - i)) × (i ≤ e)
-stands-at i (leading.At q n) p e h =
-    let z : i + n ≡ e = cc in
-    let y : n ≡ e - i = omega arith in
-    let x : q ≡ p = cc in
-    (cc, omega arith)
-stands-at i leading.Fault p e h = clash (cc)
+module _ (i : ℕ) (l : List ℕ) where
+  pub paired : (p : Place) (e : ℕ) → pairAt i l ≡ leading.At p e → Paired i l p e
+  unfolding pairAt
+  paired p e q = let (t, v) = first-arm _ _ _ (isPair l) q (λ f. clash (cc)) in record { is = t; value = cc; end = cc }
 
--- a whole text
+  pub not-paired : pairAt i l ≡ leading.Fault → isPair l ≡ false
+  unfolding pairAt
+  not-paired q = second-arm _ _ _ (isPair l) q (λ f. clash (cc))
+
+-- ---- a pair that is the whole text
+
+-- a text is a pair, or it is refused with 22
+pub pair-cases : (l : List ℕ) (P : Answer Place → Type 0) → ((p : Place) → P (gives p)) → P (refuses 22 0) → P (pairOf l)
+unfolding pairOf
+pair-cases l P f g = cond-cases P (isPair l && eqb (pairLength l) (length l)) (gives (pairValue l)) (refuses 22 0) (λ t. f (pairValue l)) (λ t. g)
+
 module _ (l : List ℕ) where
-  pub no-pair : standingAt 0 (leadingPair l) ≡ leading.Fault → pair.Fault ≡ pairOf l
+  pub no-pair : pairAt 0 l ≡ leading.Fault → refuses 22 0 ≡ pairOf l
   unfolding pairOf
-  no-pair h = rw (stands-none 0 (leadingPair l) h)
+  no-pair q = rw (not-paired 0 l q)
 
-  module _ (p : Place) (e : ℕ) (h : standingAt 0 (leadingPair l) ≡ leading.At p e) where
-    pub pair-part : (e ≡ length l → ⊥) → pair.Fault ≡ pairOf l
+  module _ (p : Place) (e : ℕ) (q : pairAt 0 l ≡ leading.At p e) where
+    pub pair-part : (e ≡ length l → ⊥) → refuses 22 0 ≡ pairOf l
     unfolding pairOf
-    pair-part n = rw (stands-at 0 (leadingPair l) p e h .0, ne-eqb (e - 0) (length l) (λ z. n (omega arith)))
+    pair-part n =
+        let m = paired 0 l p e q in
+        rw (m .is, ne-eqb (pairLength l) (length l) (λ z. n (omega (arith, m .end, z))))
 
-    pub pair-whole : e ≡ length l → pair.At p ≡ pairOf l
+    pub pair-whole : e ≡ length l → gives p ≡ pairOf l
     unfolding pairOf
-    pair-whole n = rw (stands-at 0 (leadingPair l) p e h .0, eq-eqb (e - 0) (length l) (omega arith))
+    pair-whole n =
+        let m = paired 0 l p e q in
+        rw (m .is, eq-eqb (pairLength l) (length l) (omega (arith, m .end)), m .value)

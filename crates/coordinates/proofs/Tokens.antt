@@ -1,30 +1,24 @@
 -- What leads a text and its first token: no byte of a pair is white space, so digits, decimals, coordinates and pairs end within the token that they
 -- lead, and are the same read from the token alone.
 use mathlib.Core.Path.{_≡_, refl, sym, ap, _∙_}
-use mathlib.Core.Bool.{Bool, true, false, not, false≢true, _||_}
+use mathlib.Core.Bool.{Bool, true, false, not, false≢true, _&&_, _||_}
 use mathlib.Core.List.{List, [], _∷_}
 use Prim.Native.Char.{code}
 use Prim.Native.Nat.{ℕ, zero, suc, _+_, _-_, _≤_}
 use native.Mathlib.Nat.{le-of-suc-le-suc, not-suc-le-zero}
 use native.Mathlib.Omega.{arith}
 use borrow.Author.Tests.{eqb-true, eq-eqb, ne-eqb}
-use lib.IntN.{ℤ}
 use lib.ListN.{length, take, drop}
 use lib.Seq.{take-take, length-take-le}
+use Rattle.text.specs.Answers.{gives, refuses}
 use Rattle.text.specs.Bytes.{isSpace, isDigit, digits}
-use Rattle.text.specs.Logic.{by-test, first-arm, clash}
+use Rattle.text.specs.Logic.{by-test, and-left, and-right}
 use Rattle.text.specs.Tokens.{onToken, tokenLength}
 use Rattle.text.proofs.Laws.{token-le, token-some, no-token}
 use Rattle.text.proofs.Runs.{run-rest}
 use Rattle.coordinates.specs.Decimal.{leads, whole, afterWhole, hasPoint, places, fraction, decimalLength, isDecimal, scaled}
-use Rattle.coordinates.specs.Place.{latitudeLimit, longitudeLimit, signLength, unsigned, coordinateAt, withLongitude, withLatitude, leadingPair, pairOf}
-use Rattle.coordinates.specs.declared.Place.{Place}
-use Rattle.coordinates.specs.declared.Coordinate.{Coordinate}
-use Rattle.coordinates.specs.declared.Coordinate.the-variants as coordinate
-use Rattle.coordinates.specs.declared.Pair.the-variants as pair
-use Rattle.coordinates.specs.declared.LeadingPair.the-variants as leading
+use Rattle.coordinates.specs.Place.{latitudeLimit, longitudeLimit, signLength, unsigned, isCoordinate, coordinateValue, coordinateLength, afterComma, isPair, pairValue, pairLength, pairOf}
 use Rattle.coordinates.proofs.Runs.{digit-ge}
-use Rattle.coordinates.proofs.Coordinates.{measured, coordinate-moved}
 
 -- ---- the token that leads a text
 
@@ -145,84 +139,85 @@ module _ (l : List ℕ) where
   unsigned-token : unsigned (token l) ≡ token (unsigned l)
   unsigned-token = rw sign-token (token-drop (signLength l) l sign-within)
 
-  coordinate-token : (limit i : ℕ) → coordinateAt limit i (token l) ≡ coordinateAt limit i l
-  unfolding coordinateAt isDecimal scaled decimalLength
-  coordinate-token limit i =
+  is-token : (limit : ℕ) → isCoordinate limit (token l) ≡ isCoordinate limit l
+  unfolding isDecimal scaled
+  is-token limit =
       let u = unsigned l in
-      rw (unsigned-token, sign-token, leads-token (code "-") refl l, point-token u, whole-token u, fraction-token u, places-token u, digits-token u)
+      rw (unsigned-token, point-token u, whole-token u, fraction-token u, places-token u, digits-token u)
 
-  coordinate-within : (limit : ℕ) (z : ℤ) (e : ℕ) → coordinateAt limit 0 l ≡ coordinate.Value z e → e ≤ tokenLength l
-  coordinate-within limit z e q =
-      omega (arith, measured limit 0 l z e q .end, decimal-within (unsigned l), run-rest notSpace (signLength l) l sign-within)
+  value-token : coordinateValue (token l) ≡ coordinateValue l
+  unfolding scaled
+  value-token =
+      let u = unsigned l in
+      rw (unsigned-token, leads-token (code "-") refl l, whole-token u, fraction-token u, places-token u)
+
+  length-token : coordinateLength (token l) ≡ coordinateLength l
+  unfolding decimalLength
+  length-token = let u = unsigned l in rw (unsigned-token, sign-token, point-token u, places-token u, digits-token u)
+
+  coordinate-within : coordinateLength l ≤ tokenLength l
+  coordinate-within = omega (arith, decimal-within (unsigned l), run-rest notSpace (signLength l) l sign-within)
 
 -- ---- a pair
 
-nothing : {X : Type 0} (p : Place) (e : ℕ) → leading.Fault ≡ leading.At p e → X
-nothing p e h = clash (cc)
-
 module _ (l : List ℕ) where
-  module _ (y : ℤ) (k : ℕ) (q : coordinateAt latitudeLimit 0 l ≡ coordinate.Value y k) where
-    comma-token : leads (code ",") (drop k (token l)) ≡ leads (code ",") (drop k l)
-    comma-token = rw (token-drop k l (coordinate-within l latitudeLimit y k q)) (leads-token (code ",") refl (drop k l))
+  abbrev rest : List ℕ
+  rest = drop (coordinateLength l) l
 
-    module _ (t : leads (code ",") (drop k l) ≡ true) where
-      comma-within : k + 1 ≤ tokenLength l
-      comma-within = omega (arith, leads-within (code ",") refl (drop k l) t, run-rest notSpace k l (coordinate-within l latitudeLimit y k q))
+  comma-token : leads (code ",") (drop (coordinateLength (token l)) (token l)) ≡ leads (code ",") rest
+  comma-token = rw (length-token l, token-drop (coordinateLength l) l (coordinate-within l)) (leads-token (code ",") refl rest)
 
-      rest-token : drop (k + 1) (token l) ≡ token (drop (k + 1) l)
-      rest-token = token-drop (k + 1) l comma-within
+  module _ (t : leads (code ",") rest ≡ true) where
+    comma-within : coordinateLength l + 1 ≤ tokenLength l
+    comma-within = omega (arith, leads-within (code ",") refl rest t, run-rest notSpace (coordinateLength l) l (coordinate-within l))
 
-  -- a pair leads the token that it leads the text with
-  leading-token : leadingPair (token l) ≡ leadingPair l
-  leading-token = rw (coordinate-token l latitudeLimit 0) (go (coordinateAt latitudeLimit 0 l) refl)
+    after-comma : afterComma (token l) ≡ token (afterComma l)
+    after-comma = rw (length-token l) (token-drop (coordinateLength l + 1) l comma-within)
+
+  -- the token is a pair exactly where the text is led by one
+  pair-token : isPair (token l) ≡ isPair l
+  pair-token =
+      rw (is-token l latitudeLimit, comma-token)
+      (by-test (leads (code ",") rest)
+      (λ t. rw (after-comma t, is-token (afterComma l) longitudeLimit))
+      (λ t. rw t (and-false (isCoordinate latitudeLimit l))))
     where
-      go : (c : Coordinate) → coordinateAt latitudeLimit 0 l ≡ c → withLatitude (token l) c ≡ withLatitude l c
-      go (coordinate.Value y k) q =
-          by-test (leads (code ",") (drop k l))
-          (λ t. rw (comma-token y k q, t, rest-token y k q t, coordinate-token (drop (k + 1) l) longitudeLimit (k + 1)))
-          (λ t. rw (comma-token y k q, t))
-      go coordinate.Fault q = refl
+      and-false :
+          (a : Bool) → a && false && isCoordinate longitudeLimit (afterComma (token l)) ≡ a && false && isCoordinate longitudeLimit (afterComma l)
+      and-false true = refl
+      and-false false = refl
 
-  -- and ends within it
-  leading-within : (p : Place) (e : ℕ) → leadingPair l ≡ leading.At p e → e ≤ tokenLength l
-  leading-within p e = go (coordinateAt latitudeLimit 0 l) refl
-    where
-      far : (y x : ℤ) (k n : ℕ) → coordinateAt latitudeLimit 0 l ≡ coordinate.Value y k → leads (code ",") (drop k l) ≡ true
-          → coordinateAt longitudeLimit (k + 1) (drop (k + 1) l) ≡ coordinate.Value x n → n ≤ tokenLength l
-      far y x k n q t d =
-          omega (
-            arith,
-            coordinate-within (drop (k + 1) l) longitudeLimit x (0 + (n - (k + 1)))
-                (coordinate-moved longitudeLimit (k + 1) (drop (k + 1) l) 0 x n d),
-            run-rest notSpace (k + 1) l (comma-within y k q t),
-          )
+  -- which is its token where white space or the end follows, and a part of it else
+  module _ (p : isPair l ≡ true) where
+    has-comma : leads (code ",") rest ≡ true
+    has-comma =
+        let a = isCoordinate latitudeLimit l in
+        let b = leads (code ",") rest in
+        and-right a b (and-left (a && b) (isCoordinate longitudeLimit (afterComma l)) p)
 
-      longitude : (y : ℤ) (k : ℕ) (c : Coordinate) → coordinateAt latitudeLimit 0 l ≡ coordinate.Value y k → leads (code ",") (drop k l) ≡ true
-          → coordinateAt longitudeLimit (k + 1) (drop (k + 1) l) ≡ c → withLongitude y c ≡ leading.At p e → e ≤ tokenLength l
-      longitude y k (coordinate.Value x n) q t d h = let z : n ≡ e = cc in rw (← z) (far y x k n q t d)
-      longitude y k coordinate.Fault q t d h = nothing p e h
+    pair-within : pairLength l ≤ tokenLength l
+    pair-within = omega (arith, coordinate-within (afterComma l), run-rest notSpace (coordinateLength l + 1) l (comma-within has-comma))
 
-      go : (c : Coordinate) → coordinateAt latitudeLimit 0 l ≡ c → withLatitude l c ≡ leading.At p e → e ≤ tokenLength l
-      go (coordinate.Value y k) q h =
-          let (t, d) = first-arm _ _ _ (leads (code ",") (drop k l)) h (nothing p e) in
-          longitude y k (coordinateAt longitudeLimit (k + 1) (drop (k + 1) l)) q t refl d
-      go coordinate.Fault q h = nothing p e h
+    pub pair-end : onToken (drop (pairLength l) l) ≡ false → pairLength l ≡ tokenLength l
+    pair-end t = token-ended (pairLength l) l pair-within t
 
-  -- a pair that leads a text is its token where white space or the end follows, and a part of it else
-  module _ (p : Place) (e : ℕ) (q : leadingPair l ≡ leading.At p e) where
-    pub pair-end : onToken (drop e l) ≡ false → e ≡ tokenLength l
-    pair-end t = token-ended e l (leading-within p e q) t
+    same-length : pairLength (token l) ≡ pairLength l
+    same-length = rw (after-comma has-comma, length-token l, length-token (afterComma l))
 
-    pub pair-whole : onToken (drop e l) ≡ false → pairOf (token l) ≡ pair.At p
+    same-value : pairValue (token l) ≡ pairValue l
+    same-value = rw (after-comma has-comma, value-token l, value-token (afterComma l))
+
+    pub pair-whole : onToken (drop (pairLength l) l) ≡ false → pairOf (token l) ≡ gives (pairValue l)
     unfolding pairOf
-    pair-whole t = rw (leading-token, q, token-length l, eq-eqb e (tokenLength l) (pair-end t))
+    pair-whole t = rw (pair-token, p, same-length, same-value, token-length l, eq-eqb (pairLength l) (tokenLength l) (pair-end t))
 
-    pub pair-part : onToken (drop e l) ≡ true → pairOf (token l) ≡ pair.Fault
+    pub pair-part : onToken (drop (pairLength l) l) ≡ true → pairOf (token l) ≡ refuses 22 0
     unfolding pairOf
     pair-part t =
-        let r = run-rest notSpace e l (leading-within p e q) in
-        rw (leading-token, q, token-length l, ne-eqb e (tokenLength l) (λ z. omega (arith, token-some (drop e l) t)))
+        let r = run-rest notSpace (pairLength l) l pair-within in
+        rw (pair-token, p, same-length, token-length l)
+        (rw (ne-eqb (pairLength l) (tokenLength l) (λ z. omega (arith, token-some (drop (pairLength l) l) t))))
 
-  pub pair-none : leadingPair l ≡ leading.Fault → pairOf (token l) ≡ pair.Fault
+  pub pair-none : isPair l ≡ false → pairOf (token l) ≡ refuses 22 0
   unfolding pairOf
-  pair-none q = rw (leading-token, q)
+  pair-none p = rw (pair-token, p)

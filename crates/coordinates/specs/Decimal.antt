@@ -5,11 +5,10 @@ use Prim.Native.Nat.{ℕ, _+_, _-_, _*_, _^_}
 use Prim.Native.Char.{code}
 use lib.Dec.{eqb, leb}
 use lib.ListN.{length, take, drop}
+use Rattle.text.specs.Answers.{Answer, gives, refuses}
 use Rattle.text.specs.Bytes.{digits, number}
 use Rattle.coordinates.specs.declared.Decimal.{Decimal}
 use Rattle.coordinates.specs.declared.Decimal.the-variants.{Value, Fault}
-use Rattle.coordinates.specs.declared.Radius.{Radius}
-use Rattle.coordinates.specs.declared.Radius.the-variants as radius
 
 -- the byte b leads the text
 unfoldable pub leads : ℕ → List ℕ → Bool
@@ -55,5 +54,5 @@ decimalAt w f i l = cond (isDecimal w f l) (Value (scaled f l) (i + decimalLengt
 abbrev pub isRadius : List ℕ → Bool
 isRadius l = isDecimal 5 3 l && eqb (decimalLength l) (length l) && leb (scaled 3 l) 20_000_000
 
-unfoldable pub radiusOf : List ℕ → Radius
-radiusOf l = cond (isRadius l) (radius.Metres (scaled 3 l)) radius.Fault
+unfoldable pub radiusOf : List ℕ → Answer ℕ
+radiusOf l = cond (isRadius l) (gives (scaled 3 l)) (refuses 22 0)

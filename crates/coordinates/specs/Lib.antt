@@ -1,3 +1,4 @@
 pub mod Run
 pub mod Decimal
 pub mod Place
+pub mod Answers

@@ -7,13 +7,10 @@ use lib.Dec.{eqb, leb}
 use lib.IntN.{ℤ, pos, negℤ}
 use lib.Signed.{leZ}
 use lib.ListN.{length, drop}
+use Rattle.text.specs.Answers.{Answer, gives, refuses}
 use Rattle.coordinates.specs.declared.Place.{Place}
 use Rattle.coordinates.specs.declared.Coordinate.{Coordinate}
 use Rattle.coordinates.specs.declared.Coordinate.the-variants.{Value, Fault}
-use Rattle.coordinates.specs.declared.Degrees.{Degrees}
-use Rattle.coordinates.specs.declared.Degrees.the-variants as degrees
-use Rattle.coordinates.specs.declared.Pair.{Pair}
-use Rattle.coordinates.specs.declared.Pair.the-variants as pair
 use Rattle.coordinates.specs.declared.LeadingPair.{LeadingPair}
 use Rattle.coordinates.specs.declared.LeadingPair.the-variants as leading
 use Rattle.coordinates.specs.Decimal.{leads, isDecimal, scaled, decimalLength}
@@ -46,46 +43,35 @@ isCoordinate limit l = isDecimal 3 7 (unsigned l) && leb (scaled 7 (unsigned l))
 abbrev pub coordinateValue : List ℕ → ℤ
 coordinateValue l = cond (leads (code "-") l) (negℤ (pos (scaled 7 (unsigned l)))) (pos (scaled 7 (unsigned l)))
 
+abbrev pub coordinateLength : List ℕ → ℕ
+coordinateLength l = signLength l + decimalLength (unsigned l)
+
 -- the coordinate that leads the text l, which stands at offset i
 unfoldable pub coordinateAt : ℕ → ℕ → List ℕ → Coordinate
-coordinateAt limit i l =
-    cond (isCoordinate limit l)
-    (Value (coordinateValue l) (i + (signLength l + decimalLength (unsigned l))))
-    Fault
+coordinateAt limit i l = cond (isCoordinate limit l) (Value (coordinateValue l) (i + coordinateLength l)) Fault
 
--- the coordinate that a whole text of n bytes writes
-abbrev pub wholeText : ℕ → Coordinate → Degrees
-wholeText n (Value z e) = cond (eqb e n) (degrees.Units z) degrees.Fault
-wholeText n Fault = degrees.Fault
-
-unfoldable pub degreesOf : ℕ → List ℕ → Degrees
-degreesOf limit l = wholeText (length l) (coordinateAt limit 0 l)
+-- the coordinate that a whole text writes
+unfoldable pub degreesOf : ℕ → List ℕ → Answer ℤ
+degreesOf limit l = cond (isCoordinate limit l && eqb (coordinateLength l) (length l)) (gives (coordinateValue l)) (refuses 22 0)
 
 -- ---- "A pair is latitude, comma, longitude"
 
-abbrev pub withLongitude : ℤ → Coordinate → LeadingPair
-withLongitude y (Value x e) = leading.At (record { lat = y; lon = x }) e
-withLongitude y Fault = leading.Fault
+abbrev pub afterComma : List ℕ → List ℕ
+afterComma l = drop (coordinateLength l + 1) l
 
--- k bytes are the latitude y
-abbrev pub withLatitude : List ℕ → Coordinate → LeadingPair
-withLatitude l (Value y k) =
-    cond (leads (code ",") (drop k l)) (withLongitude y (coordinateAt longitudeLimit (k + 1) (drop (k + 1) l))) leading.Fault
-withLatitude l Fault = leading.Fault
+abbrev pub isPair : List ℕ → Bool
+isPair l = isCoordinate latitudeLimit l && leads (code ",") (drop (coordinateLength l) l) && isCoordinate longitudeLimit (afterComma l)
 
--- the pair that leads a text, and how many bytes it has
-abbrev pub leadingPair : List ℕ → LeadingPair
-leadingPair l = withLatitude l (coordinateAt latitudeLimit 0 l)
+abbrev pub pairValue : List ℕ → Place
+pairValue l = record { lat = coordinateValue l; lon = coordinateValue (afterComma l) }
 
--- the same, in a text that stands at offset i: the pair and the offset after it
-abbrev pub standingAt : ℕ → LeadingPair → LeadingPair
-standingAt i (leading.At p n) = leading.At p (i + n)
-standingAt i leading.Fault = leading.Fault
+abbrev pub pairLength : List ℕ → ℕ
+pairLength l = coordinateLength l + 1 + coordinateLength (afterComma l)
 
--- the pair that a whole text of n bytes writes
-abbrev pub wholePair : ℕ → LeadingPair → Pair
-wholePair n (leading.At p e) = cond (eqb e n) (pair.At p) pair.Fault
-wholePair n leading.Fault = pair.Fault
+-- the pair that leads the text l, which stands at offset i
+unfoldable pub pairAt : ℕ → List ℕ → LeadingPair
+pairAt i l = cond (isPair l) (leading.At (pairValue l) (i + pairLength l)) leading.Fault
 
-unfoldable pub pairOf : List ℕ → Pair
-pairOf l = wholePair (length l) (leadingPair l)
+-- the pair that a whole text writes
+unfoldable pub pairOf : List ℕ → Answer Place
+pairOf l = cond (isPair l && eqb (pairLength l) (length l)) (gives (pairValue l)) (refuses 22 0)

@@ -5,7 +5,8 @@ ghost use lib.IntN.{natAbs, _-ℤ_};
 ghost use Prim.Native.Nat.{_≤_};
 ghost use lib.ListN.{drop};
 ghost use Rattle.coordinates.specs.Decimal.{radiusOf};
-ghost use Rattle.coordinates.specs.Place.{latitudeLimit, longitudeLimit, within, inRange, degreesOf, pairOf, leadingPair, standingAt};
+ghost use Rattle.coordinates.specs.Answers.{degreesAnswer, pairAnswer, radiusAnswer};
+ghost use Rattle.coordinates.specs.Place.{latitudeLimit, longitudeLimit, within, inRange, degreesOf, pairAt, pairOf};
 
 mod scan;
 
@@ -22,6 +23,8 @@ pub struct Place {
     pub lat: i32,
     pub lon: i32,
 }
+
+// What leads a text, and where it ends: a run of digits, a decimal, a coordinate, a pair. A fault there is part of a text that is refused with 22.
 
 // The number that a run of digits writes and the offset after it, or that it has too many digits.
 pub enum Run {
@@ -41,6 +44,12 @@ pub enum Coordinate {
     Fault,
 }
 
+// A place that leads a text and the offset after it, or that none does.
+pub enum LeadingPair {
+    At(Place, usize),
+    Fault,
+}
+
 // A latitude or a longitude that a whole text writes.
 pub enum Degrees {
     Units(i32),
@@ -50,12 +59,6 @@ pub enum Degrees {
 // A place that a whole text writes.
 pub enum Pair {
     At(Place),
-    Fault,
-}
-
-// A place that leads a text and the offset after it, or that none does.
-pub enum LeadingPair {
-    At(Place, usize),
     Fault,
 }
 
@@ -111,21 +114,21 @@ pub fn distance(a: i32, b: i32) -> u64
 
 // The latitude that a text writes.
 pub fn read_latitude(text: &[u8]) -> Degrees
-    ensures { λ r. ⌜ r ≡ degreesOf latitudeLimit (now (text .entry)) ⌝ }
+    ensures { λ r. ⌜ degreesAnswer r ≡ degreesOf latitudeLimit (now (text .entry)) ⌝ }
 {
     whole_text(text, LATITUDE_LIMIT)
 }
 
 // The longitude that a text writes.
 pub fn read_longitude(text: &[u8]) -> Degrees
-    ensures { λ r. ⌜ r ≡ degreesOf longitudeLimit (now (text .entry)) ⌝ }
+    ensures { λ r. ⌜ degreesAnswer r ≡ degreesOf longitudeLimit (now (text .entry)) ⌝ }
 {
     whole_text(text, LONGITUDE_LIMIT)
 }
 
 // The place that a text writes: latitude, comma, longitude.
 pub fn read_pair(text: &[u8]) -> Pair
-    ensures { λ r. ⌜ r ≡ pairOf (now (text .entry)) ⌝ }
+    ensures { λ r. ⌜ pairAnswer r ≡ pairOf (now (text .entry)) ⌝ }
 {
     let pair = leading_pair(text, 0);
     let LeadingPair::At(place, next) = pair else {
@@ -139,7 +142,7 @@ pub fn read_pair(text: &[u8]) -> Pair
 
 // The place that stands from `at` on: latitude, comma, longitude. What stands after it isn't looked at.
 pub fn leading_pair(text: &[u8], at: usize) -> LeadingPair
-    ensures { λ r. ⌜ r ≡ standingAt at (leadingPair (drop at (now (text .entry)))) ⌝ }
+    ensures { λ r. ⌜ r ≡ pairAt at (drop at (now (text .entry))) ⌝ }
 {
     let y = scan::coordinate_at(text, at, LATITUDE_LIMIT);
     let Coordinate::Value(lat, comma) = y else {
@@ -157,7 +160,7 @@ pub fn leading_pair(text: &[u8], at: usize) -> LeadingPair
 
 // The radius that a text writes in kilometres.
 pub fn read_radius(text: &[u8]) -> Radius
-    ensures { λ r. ⌜ r ≡ radiusOf (now (text .entry)) ⌝ }
+    ensures { λ r. ⌜ radiusAnswer r ≡ radiusOf (now (text .entry)) ⌝ }
 {
     let d = scan::decimal_at(text, 0, 5, 3);
     let Decimal::Value(metres, after) = d else {
@@ -175,7 +178,7 @@ pub fn read_radius(text: &[u8]) -> Radius
 // The coordinate that a text writes.
 fn whole_text(text: &[u8], limit: u64) -> Degrees
     requires { ⌜ limit ≤ 1_800_000_000 ⌝ }
-    ensures { λ r. ⌜ r ≡ degreesOf limit (now (text .entry)) ⌝ }
+    ensures { λ r. ⌜ degreesAnswer r ≡ degreesOf limit (now (text .entry)) ⌝ }
 {
     let c = scan::coordinate_at(text, 0, limit);
     let Coordinate::Value(units, end) = c else {

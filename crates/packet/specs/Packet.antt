@@ -12,8 +12,6 @@ use Rattle.text.specs.Logic.{eql}
 use Rattle.text.specs.Answers.{Answer, gives, refuses, andThen, giving}
 use Rattle.words.specs.Duration.{isLasting}
 use Rattle.coordinates.specs.declared.Place.{Place}
-use Rattle.coordinates.specs.declared.Inclusion.{Inclusion}
-use Rattle.coordinates.specs.declared.Inclusion.the-variants as inclusion
 use Rattle.coordinates.specs.Place.{inRange}
 use Rattle.circle.specs.Circle.{aroundHolds}
 use Rattle.sheet.specs.declared.WarnFacts.{WarnFacts}
@@ -144,14 +142,8 @@ sheetAnswer (drawn.Refused e) = refuses (faultNumber e) 0
 
 -- ---- the place: "A packet's shape is the circle of its epicentre and radius", the radius in 10 m; the packet's own refusals, then 6 for the place
 
--- a radius above 20,000 km, 22, makes no circle
-abbrev pub side : Inclusion → Answer Bool
-side inclusion.Inside = gives true
-side inclusion.Outside = gives false
-side inclusion.Fault = refuses 22 0
-
 abbrev pub placedIn : Fields → Place → Answer Bool
-placedIn f place = cond (inRange place) (side (aroundHolds (epicentre f) (10 * f .radius) place)) (refuses 6 0)
+placedIn f place = cond (inRange place) (aroundHolds (epicentre f) (10 * f .radius) place) (refuses 6 0)
 
 unfoldable pub packetPlace : List ℕ → Place → Answer Bool
 packetPlace p place = andThen (packetOf p) (λ (f : Fields). placedIn f place)

@@ -3,24 +3,22 @@ use mathlib.Core.Path.{_≡_, refl, sym, ap, _∙_, subst}
 use mathlib.Core.Bool.{Bool, true, false, not}
 use mathlib.Core.List.{List, [], _∷_}
 use mathlib.Core.Logic.{⊎-elim}
-use Prim.Native.Nat.{ℕ, _+_, _-_, _≤_, _<_}
+use Prim.Native.Nat.{ℕ, _+_, _≤_, _<_}
 use native.Mathlib.Omega.{arith}
 use borrow.Author.Tests.{leb-true, leb-false, le-leb, lt-leb}
 use lib.Dec.{leb}
 use lib.ListN.{length, getD, drop, drop-of-length-le, length-drop}
 use lib.Seq.{drop-drop}
+use Rattle.text.specs.Answers.{gives, refuses}
 use Rattle.text.specs.Logic.{cond-cases}
 use Rattle.text.specs.Bytes.{isSpace, spaces}
 use Rattle.text.specs.Tokens.{onToken, tokens, tokenLength}
 use Rattle.text.proofs.Runs.{drop-next}
 use Rattle.text.proofs.Laws.{token-within, tokens-space, token-or-end, tokens-next, token-some}
 use Rattle.coordinates.specs.declared.Place.{Place}
-use Rattle.coordinates.specs.declared.Pair.{Pair}
-use Rattle.coordinates.specs.declared.Pair.the-variants as pair
 use Rattle.coordinates.specs.declared.LeadingPair.the-variants as leading
-use Rattle.coordinates.specs.Place.{pairOf, leadingPair, standingAt}
-use Rattle.coordinates.proofs.Leading.{drop-after}
-use Rattle.coordinates.proofs.Readers.{stands-none, stands-at}
+use Rattle.coordinates.specs.Place.{pairLength, pairAt, pairOf}
+use Rattle.coordinates.proofs.Readers.{Paired, paired, not-paired, pair-cases}
 use Rattle.coordinates.proofs.Tokens.{pair-end, pair-whole, pair-part, pair-none}
 use Rattle.polygon.specs.declared.pairs.Next.{Next}
 use Rattle.polygon.specs.declared.pairs.Next.the-variants as next
@@ -44,29 +42,26 @@ module _ (l : List ℕ) (at i : ℕ) (start : i ≡ startOf l at) where
   read-end h = rw (← start, le-leb (length l) i h)
 
   module _ (h : i < length l) where
-    pub read-none : standingAt i (leadingPair (drop i l)) ≡ leading.Fault → next.Fault ≡ nextOf l at
+    pub read-none : pairAt i (drop i l) ≡ leading.Fault → next.Fault ≡ nextOf l at
     unfolding nextOf
-    read-none q = rw (← start, lt-leb (length l) i h, pair-none (drop i l) (stands-none i (leadingPair (drop i l)) q))
+    read-none q = rw (← start, lt-leb (length l) i h, pair-none (drop i l) (not-paired i (drop i l) q))
 
-    module _ (p : Place) (e : ℕ) (q : standingAt i (leadingPair (drop i l)) ≡ leading.At p e) where
-      led : leadingPair (drop i l) ≡ leading.At p (e - i)
-      led = stands-at i (leadingPair (drop i l)) p e q .0
+    module _ (p : Place) (e : ℕ) (q : pairAt i (drop i l) ≡ leading.At p e) where
+      led : Paired i (drop i l) p e
+      led = paired i (drop i l) p e q
 
-      after : i ≤ e
-      after = stands-at i (leadingPair (drop i l)) p e q .1
-
-      here : (t : Bool) → onToken (drop e l) ≡ t → onToken (drop (e - i) (drop i l)) ≡ t
-      here t f = rw (drop-after l i e after) f
+      here : (t : Bool) → onToken (drop e l) ≡ t → onToken (drop (pairLength (drop i l)) (drop i l)) ≡ t
+      here t f = rw (drop-drop (pairLength (drop i l)) i l, ← led .end) f
 
       pub read-part : onToken (drop e l) ≡ true → next.Fault ≡ nextOf l at
       unfolding nextOf
-      read-part t = rw (← start, lt-leb (length l) i h, pair-part (drop i l) p (e - i) led (here true t))
+      read-part t = rw (← start, lt-leb (length l) i h, pair-part (drop i l) (led .is) (here true t))
 
       pub read-whole : onToken (drop e l) ≡ false → next.Pair p e ≡ nextOf l at
       unfolding nextOf
       read-whole t =
-          let z : i + tokenLength (drop i l) ≡ e = omega (arith, after, pair-end (drop i l) p (e - i) led (here false t)) in
-          rw (← start, lt-leb (length l) i h, pair-whole (drop i l) p (e - i) led (here false t), z)
+          let z : i + tokenLength (drop i l) ≡ e = omega (arith, led .end, pair-end (drop i l) (led .is) (here false t)) in
+          rw (← start, lt-leb (length l) i h, pair-whole (drop i l) (led .is) (here false t), z, led .value)
 
 -- ---- what it says
 
@@ -105,9 +100,9 @@ module _ (l : List ℕ) (at : ℕ) where
 
 -- what each answer says of the tokens
 abbrev pub Says : List ℕ → ℕ → Next → Type 0
-Says l at (next.Pair p e) = (t : List ℕ) × (Token l at t e × (pairOf t ≡ pair.At p))
+Says l at (next.Pair p e) = (t : List ℕ) × (Token l at t e × (pairOf t ≡ gives p))
 Says l at next.End = tokens (drop at l) ≡ []
-Says l at next.Fault = (t : List ℕ) × ((e : ℕ) × (Token l at t e × (pairOf t ≡ pair.Fault)))
+Says l at next.Fault = (t : List ℕ) × ((e : ℕ) × (Token l at t e × (pairOf t ≡ refuses 22 0)))
 
 pub says : (l : List ℕ) (at : ℕ) (n : Next) → nextOf l at ≡ n → Says l at n
 unfolding nextOf
@@ -115,13 +110,12 @@ says l at n e =
     subst (Says l at) e
     (cond-cases (Says l at) (leb (length l) (startOf l at)) next.End (endingAt (endOf l (startOf l at)) (pairOf (tokenAt l (startOf l at))))
     (λ t. no-token l at (leb-true (length l) (startOf l at) t))
-    (λ t. go (pairOf (tokenAt l (startOf l at))) refl (token-is l at (leb-false (length l) (startOf l at) t))))
-  where
-    go :
-        (v : Pair) → pairOf (tokenAt l (startOf l at)) ≡ v → Token l at (tokenAt l (startOf l at)) (endOf l (startOf l at))
-        → Says l at (endingAt (endOf l (startOf l at)) v)
-    go (pair.At p) q k = (tokenAt l (startOf l at), (k, q))
-    go pair.Fault q k = (tokenAt l (startOf l at), (endOf l (startOf l at), (k, q)))
+    (λ t.
+    let k = token-is l at (leb-false (length l) (startOf l at) t) in
+    pair-cases (tokenAt l (startOf l at)) (λ v. pairOf (tokenAt l (startOf l at)) ≡ v → Says l at (endingAt (endOf l (startOf l at)) v))
+    (λ p q. (tokenAt l (startOf l at), (k, q)))
+    (λ q. (tokenAt l (startOf l at), (endOf l (startOf l at), (k, q))))
+    refl))
 
 pub next-further : (l : List ℕ) (at e : ℕ) (p : Place) → nextOf l at ≡ next.Pair p e → at < e
 next-further l at e p h = says l at (next.Pair p e) h .1 .0 .further

@@ -4,10 +4,10 @@ use mathlib.Core.List.{List}
 use Prim.Native.Nat.{ℕ, _+_}
 use lib.Dec.{leb}
 use lib.ListN.{length, take, drop}
+use Rattle.text.specs.Answers.{Answer, gives, refuses}
 use Rattle.text.specs.Bytes.{spaces}
 use Rattle.text.specs.Tokens.{tokenLength}
-use Rattle.coordinates.specs.declared.Pair.{Pair}
-use Rattle.coordinates.specs.declared.Pair.the-variants as pair
+use Rattle.coordinates.specs.declared.Place.{Place}
 use Rattle.coordinates.specs.Place.{pairOf}
 use Rattle.polygon.specs.declared.pairs.Next.{Next}
 use Rattle.polygon.specs.declared.pairs.Next.the-variants as next
@@ -24,9 +24,9 @@ abbrev pub tokenAt : List ℕ → ℕ → List ℕ
 tokenAt l i = take (tokenLength (drop i l)) (drop i l)
 
 -- a pair that ends at e
-abbrev pub endingAt : ℕ → Pair → Next
-endingAt e (pair.At p) = next.Pair p e
-endingAt e pair.Fault = next.Fault
+abbrev pub endingAt : ℕ → Answer Place → Next
+endingAt e (gives p) = next.Pair p e
+endingAt e (refuses n i) = next.Fault
 
 unfoldable pub nextOf : List ℕ → ℕ → Next
 nextOf l at =

@@ -3,36 +3,20 @@ use mathlib.Core.Bool.{Bool, true, false, cond, _&&_, _||_}
 use mathlib.Core.List.{List, [], _∷_}
 use Prim.Native.Nat.{ℕ, _+_, _%_}
 use lib.Dec.{eqb, leb}
-use lib.IntN.{ℤ, pos, _-ℤ_, _*ℤ_}
+use lib.IntN.{ℤ, _-ℤ_, _*ℤ_}
 use lib.Signed.{ltZ, leZ}
 use lib.ListN.{length}
 use mir.Val.{boolByte}
+use Rattle.text.specs.Answers.{Answer, gives, refuses, andThen, giving}
 use Rattle.text.specs.Tokens.{tokens}
 use Rattle.coordinates.specs.declared.Place.{Place}
-use Rattle.coordinates.specs.declared.Pair.{Pair}
-use Rattle.coordinates.specs.declared.Pair.the-variants.{At, Fault}
-use Rattle.coordinates.specs.declared.Inclusion.{Inclusion}
-use Rattle.coordinates.specs.declared.Inclusion.the-variants as inclusion
 use Rattle.coordinates.specs.Place.{pairOf}
 
 -- ---- "pairs stand between white space, which may also lead and trail": every token of the text is a pair
 
-abbrev pub isPair : Pair → Bool
-isPair (At p) = true
-isPair Fault = false
-
--- the place of a pair (of no use where it is none)
-abbrev pub placeOf : Pair → Place
-placeOf (At p) = p
-placeOf Fault = record { lat = pos 0; lon = pos 0 }
-
-unfoldable pub allPairs : List (List ℕ) → Bool
-allPairs [] = true
-allPairs (t ∷ ts) = isPair (pairOf t) && allPairs ts
-
-unfoldable pub placesOf : List (List ℕ) → List Place
-placesOf [] = []
-placesOf (t ∷ ts) = placeOf (pairOf t) ∷ placesOf ts
+unfoldable pub placesOf : List (List ℕ) → Answer (List Place)
+placesOf [] = gives []
+placesOf (t ∷ ts) = andThen (pairOf t) (λ p. giving (λ l. p ∷ l) (placesOf ts))
 
 -- ---- "A polygon has at least 4 pairs, the last equal to the first in value."
 
@@ -51,8 +35,19 @@ unfoldable pub isClosed : List Place → Bool
 isClosed [] = false
 isClosed (p ∷ l) = samePlace p (lastOf p l)
 
-unfoldable pub isPolygon : List ℕ → Bool
-isPolygon l = allPairs (tokens l) && leb 4 (length (tokens l)) && isClosed (placesOf (tokens l))
+abbrev pub isRing : List Place → Bool
+isRing l = leb 4 (length l) && isClosed l
+
+-- the ring that a text writes; 22 is "polygon or circle text"
+unfoldable pub polygonOf : List ℕ → Answer (List Place)
+polygonOf l = andThen (placesOf (tokens l)) (λ ring. cond (isRing ring) (gives ring) (refuses 22 0))
+
+abbrev pub given : {A : Type 0} → Answer A → Bool
+given (gives x) = true
+given (refuses n i) = false
+
+abbrev pub isPolygon : List ℕ → Bool
+isPolygon l = given (polygonOf l)
 
 -- ---- an edge from a to b, and a place p
 
@@ -101,8 +96,5 @@ unfoldable pub inRing : List Place → Place → Bool
 inRing l p = onRing l p || eqb (crossings l p % 2) 1
 
 -- whether the polygon of a text holds a place
-unfoldable pub polygonHolds : List ℕ → Place → Inclusion
-polygonHolds l p =
-    cond (isPolygon l)
-    (cond (inRing (placesOf (tokens l)) p) inclusion.Inside inclusion.Outside)
-    inclusion.Fault
+unfoldable pub polygonHolds : List ℕ → Place → Answer Bool
+polygonHolds l p = giving (λ ring. inRing ring p) (polygonOf l)

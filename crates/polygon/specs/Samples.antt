@@ -4,14 +4,14 @@ use mathlib.Core.Bool.{true, false}
 use mathlib.Core.List.{List}
 use Prim.Native.Nat.{ℕ}
 use lib.IntN.{ℤ, pos, negℤ, _*ℤ_}
+use Rattle.text.specs.Answers.{gives, refuses}
 use Rattle.text.specs.Ascii.{ascii}
 use Rattle.text.specs.Bytes.{numberFrom}
 use Rattle.text.specs.Tokens.{onToken, longer, tokens}
 use Rattle.coordinates.specs.declared.Place.{Place}
-use Rattle.coordinates.specs.declared.Inclusion.the-variants.{Inside, Outside, Fault}
 use Rattle.coordinates.specs.Decimal.{leads, places, fraction, decimalLength, isDecimal, scaled}
-use Rattle.coordinates.specs.Place.{coordinateAt, degreesOf, pairOf}
-use Rattle.polygon.specs.Polygon.{allPairs, placesOf, lastOf, isClosed, isPolygon, eastOf, northOf, onEdge, crosses, onRing, crossings, inRing, polygonHolds}
+use Rattle.coordinates.specs.Place.{coordinateAt, pairOf}
+use Rattle.polygon.specs.Polygon.{placesOf, lastOf, isClosed, polygonOf, isPolygon, eastOf, northOf, onEdge, crosses, onRing, crossings, inRing, polygonHolds}
 
 abbrev pub square : List ℕ
 square = ascii "0,0 0,10 10,10 10,0 0,0"
@@ -35,27 +35,27 @@ pub polygons :
     × (isPolygon (ascii "0,0 0,1 1,0 1,1") ≡ false)
     × (isPolygon (ascii "0,0 0,1 1,0; 0,0") ≡ false)
     × (isPolygon (ascii " ") ≡ false)
-unfolding isPolygon allPairs placesOf isClosed lastOf pairOf degreesOf coordinateAt scaled fraction places decimalLength isDecimal leads numberFrom
-    tokens onToken longer
+unfolding polygonOf placesOf isClosed lastOf pairOf coordinateAt scaled fraction places decimalLength isDecimal leads numberFrom tokens onToken
+    longer
 polygons = (refl, refl, refl, refl, refl, refl)
 
 -- The square: a vertex, two edges, the middle; level with vertices in the west, below and above, and in the east; east of the middle.
 -- The triangle: on a slope, a unit east and a unit west of it; level with the vertex in the west, on either side of it.
 pub held :
-    (polygonHolds square (degrees (pos 10) (pos 10)) ≡ Inside)
-    × (polygonHolds square (degrees (pos 0) (pos 5)) ≡ Inside)
-    × (polygonHolds square (degrees (pos 5) (pos 0)) ≡ Inside)
-    × (polygonHolds square (degrees (pos 5) (pos 5)) ≡ Inside)
-    × (polygonHolds square (degrees (pos 0) (negℤ (pos 5))) ≡ Outside)
-    × (polygonHolds square (degrees (pos 10) (negℤ (pos 5))) ≡ Outside)
-    × (polygonHolds square (degrees (pos 0) (pos 15)) ≡ Outside)
-    × (polygonHolds square (degrees (pos 5) (pos 15)) ≡ Outside)
-    × (polygonHolds triangle (units (negℤ (pos 50_000_000)) (pos 0)) ≡ Inside)
-    × (polygonHolds triangle (units (negℤ (pos 50_000_000)) (pos 1)) ≡ Inside)
-    × (polygonHolds triangle (units (negℤ (pos 50_000_000)) (negℤ (pos 1))) ≡ Outside)
-    × (polygonHolds triangle (degrees (pos 0) (negℤ (pos 9))) ≡ Inside)
-    × (polygonHolds triangle (degrees (pos 0) (negℤ (pos 11))) ≡ Outside)
-    × (polygonHolds (ascii "0,0 0,1 0,0") (degrees (pos 0) (pos 0)) ≡ Fault)
-unfolding polygonHolds inRing onRing crossings onEdge crosses eastOf northOf isPolygon allPairs placesOf isClosed lastOf pairOf degreesOf coordinateAt
-    scaled fraction places decimalLength isDecimal leads numberFrom tokens onToken longer
+    (polygonHolds square (degrees (pos 10) (pos 10)) ≡ gives true)
+    × (polygonHolds square (degrees (pos 0) (pos 5)) ≡ gives true)
+    × (polygonHolds square (degrees (pos 5) (pos 0)) ≡ gives true)
+    × (polygonHolds square (degrees (pos 5) (pos 5)) ≡ gives true)
+    × (polygonHolds square (degrees (pos 0) (negℤ (pos 5))) ≡ gives false)
+    × (polygonHolds square (degrees (pos 10) (negℤ (pos 5))) ≡ gives false)
+    × (polygonHolds square (degrees (pos 0) (pos 15)) ≡ gives false)
+    × (polygonHolds square (degrees (pos 5) (pos 15)) ≡ gives false)
+    × (polygonHolds triangle (units (negℤ (pos 50_000_000)) (pos 0)) ≡ gives true)
+    × (polygonHolds triangle (units (negℤ (pos 50_000_000)) (pos 1)) ≡ gives true)
+    × (polygonHolds triangle (units (negℤ (pos 50_000_000)) (negℤ (pos 1))) ≡ gives false)
+    × (polygonHolds triangle (degrees (pos 0) (negℤ (pos 9))) ≡ gives true)
+    × (polygonHolds triangle (degrees (pos 0) (negℤ (pos 11))) ≡ gives false)
+    × (polygonHolds (ascii "0,0 0,1 0,0") (degrees (pos 0) (pos 0)) ≡ refuses 22 0)
+unfolding polygonHolds inRing onRing crossings onEdge crosses eastOf northOf polygonOf placesOf isClosed lastOf pairOf coordinateAt scaled
+    fraction places decimalLength isDecimal leads numberFrom tokens onToken longer
 held = (refl, refl, refl, refl, refl, refl, refl, refl, refl, refl, refl, refl, refl, refl)

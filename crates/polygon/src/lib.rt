@@ -2,6 +2,7 @@
 use coordinates::Inclusion;
 use coordinates::Place;
 ghost use mathlib.Core.Path.{_≡_};
+ghost use Rattle.coordinates.specs.Answers.{inclusionAnswer};
 ghost use Rattle.polygon.specs.Polygon.{same, samePlace, isPolygon, polygonHolds};
 ghost use Rattle.polygon.specs.Ring.{closes, verdictOf, answerOf};
 
@@ -25,14 +26,14 @@ pub fn is_polygon(text: &[u8]) -> bool
 
 // Whether the polygon that a text writes holds a place: on an edge, or with an odd number of edges that cross east of it.
 pub fn polygon_holds(text: &[u8], place: Place) -> Inclusion
-    ensures { λ r. ⌜ r ≡ polygonHolds (now (text .entry)) place ⌝ }
+    ensures { λ r. ⌜ inclusionAnswer r ≡ polygonHolds (now (text .entry)) place ⌝ }
 {
     walk(text, place, true)
 }
 
 // The walk from pair to pair, with or without judging the edges. Each pair takes a byte, so that their count fits.
 fn walk(text: &[u8], place: Place, counted: bool) -> Inclusion
-    ensures { λ r. ⌜ r ≡ answerOf counted (now (text .entry)) place ⌝ }
+    ensures { λ r. ⌜ inclusionAnswer r ≡ answerOf counted (now (text .entry)) place ⌝ }
 {
     let head = pairs::next_pair(text, 0);
     let Next::Pair(first, start) = head else {
@@ -87,7 +88,7 @@ fn closes(count: usize, first: Place, last: Place) -> bool
 
 // The answer, from whether there is a polygon and what its edges say together.
 fn verdict(polygon: bool, sum: Tally) -> Inclusion
-    ensures { λ r. ⌜ r ≡ verdictOf polygon sum ⌝ }
+    ensures { λ r. ⌜ inclusionAnswer r ≡ verdictOf polygon sum ⌝ }
 {
     if !polygon {
         return Inclusion::Fault;

@@ -9,8 +9,8 @@ use Rattle.time.specs.Calendar.{daysOfYears, daysOfMonths}
 use Rattle.time.specs.Time.{hasForm, stampOf, isStamp, localSeconds, epoch, offset, instantOf, stampTime, timeOf}
 use Rattle.sheet.specs.Sheet.{allNameBytes}
 use Rattle.coordinates.specs.Decimal.{leads, places, fraction, decimalLength, isDecimal, scaled}
-use Rattle.coordinates.specs.Place.{coordinateAt, degreesOf, pairOf}
-use Rattle.polygon.specs.Polygon.{allPairs, placesOf, lastOf, isClosed, isPolygon}
+use Rattle.coordinates.specs.Place.{coordinateAt, pairOf}
+use Rattle.polygon.specs.Polygon.{placesOf, lastOf, isClosed, polygonOf}
 use Rattle.circle.specs.Circle.{circleTokens, circleOf}
 use Rattle.schema.specs.Classes as class
 use Rattle.codes.specs.Lists.{lists, codeOf}
@@ -45,8 +45,8 @@ sample-times = (refl, refl)
 pub sample-areas :
     (textRule class.polygon (ascii "0,0 0,1 1,0 0,0") ≡ 0)
     × (textRule class.circle (ascii "1,1") ≡ 22)
-unfolding numberFrom onToken longer tokens leads places fraction decimalLength isDecimal scaled coordinateAt degreesOf pairOf allPairs placesOf lastOf
-    isClosed isPolygon circleTokens circleOf polygonRule circleRule textRule
+unfolding numberFrom onToken longer tokens leads places fraction decimalLength isDecimal scaled coordinateAt pairOf placesOf lastOf isClosed
+    polygonOf circleTokens circleOf polygonRule circleRule textRule
 sample-areas = (refl, refl)
 
 -- event has no rule

@@ -4,13 +4,10 @@ use mathlib.Core.List.{List}
 use Prim.Native.Nat.{ℕ}
 use lib.Dec.{eqb, leb, ltb}
 use lib.ListN.{length}
-use Rattle.time.specs.declared.Time.{Time}
-use Rattle.time.specs.declared.Time.the-variants as time
+use Rattle.text.specs.Answers.{Answer, gives, refuses}
 use Rattle.time.specs.Time.{timeOf}
 use Rattle.sheet.specs.Sheet.{allNameBytes}
-use Rattle.polygon.specs.Polygon.{isPolygon}
-use Rattle.circle.specs.declared.Circle.{Circle}
-use Rattle.circle.specs.declared.Circle.the-variants as circle
+use Rattle.polygon.specs.Polygon.{polygonOf}
 use Rattle.circle.specs.Circle.{circleOf}
 use Rattle.schema.specs.Classes as class
 use Rattle.rules.specs.Codes.{codeOf, hasCodes}
@@ -23,24 +20,19 @@ nameRule t = cond (ltb 128 (length t)) 14 (cond (leb 1 (length t) && allNameByte
 unfoldable pub codeRule : ℕ → List ℕ → ℕ
 codeRule c t = cond (eqb (codeOf c t) 0) 17 0
 
--- 18: "time"
-abbrev pub timeNumber : Time → ℕ
-timeNumber (time.Instant i) = 0
-timeNumber time.Fault = 18
+-- the number of a refusal, 0 for an answer that is given: 18 is "time", 22 "polygon or circle text"
+abbrev pub numberOf : {A : Type 0} → Answer A → ℕ
+numberOf (gives x) = 0
+numberOf (refuses n i) = n
 
 unfoldable pub timeRule : List ℕ → ℕ
-timeRule t = timeNumber (timeOf t)
+timeRule t = numberOf (timeOf t)
 
--- 22: "polygon or circle text"
 unfoldable pub polygonRule : List ℕ → ℕ
-polygonRule t = cond (isPolygon t) 0 22
-
-abbrev pub circleNumber : Circle → ℕ
-circleNumber (circle.Around centre metres) = 0
-circleNumber circle.Fault = 22
+polygonRule t = numberOf (polygonOf t)
 
 unfoldable pub circleRule : List ℕ → ℕ
-circleRule t = circleNumber (circleOf t)
+circleRule t = numberOf (circleOf t)
 
 -- sent, effective, onset, expires
 abbrev pub isTime : ℕ → Bool

@@ -1,17 +1,15 @@
 -- The bench samples that document 01 marks with *, in a single statement over the definitions that the contracts name.
 use mathlib.Core.Path.{_≡_, refl}
-use mathlib.Core.Bool.{true}
+use mathlib.Core.Bool.{true, false}
 use mathlib.Core.List.{[], _∷_}
 use lib.IntN.{ℤ, pos, negℤ, _-ℤ_}
-use Rattle.text.specs.Ascii.{ascii}
 use Rattle.text.specs.Answers.{gives, refuses, giving}
-use Rattle.time.specs.declared.Time.the-variants.{Instant}
+use Rattle.text.specs.Ascii.{ascii}
 use Rattle.time.specs.Time.{timeOf}
 use Rattle.time.specs.Samples.{sample-2002, sample-first, sample-zones}
 use Rattle.words.specs.Words.{words}
 use Rattle.words.specs.Duration.{duration}
 use Rattle.words.specs.Samples.{sample-numbers, sample-year, sample-quarter}
-use Rattle.coordinates.specs.declared.Inclusion.the-variants.{Inside, Outside}
 use Rattle.packet.specs.Packet.{lastingOf, packetOf}
 use Rattle.events.specs.Table.{received}
 use Rattle.events.specs.Samples.{packetWith, stored, sample-stored, sample-lasting}
@@ -27,12 +25,12 @@ quarterPast = pos 1_794_737_700
 
 pub record Starred : Type 0 where
   -- 2002-05-24T16:49:00-07:00 is 1,022,284,140
-  pub instant : timeOf (ascii "2002-05-24T16:49:00-07:00") ≡ Instant (pos 1_022_284_140)
+  pub instant : timeOf (ascii "2002-05-24T16:49:00-07:00") ≡ gives (pos 1_022_284_140)
   -- 0001-01-01T00:00:00-00:00 is -62,135,596,800
-  pub first : timeOf (ascii "0001-01-01T00:00:00-00:00") ≡ Instant (negℤ (pos 62_135_596_800))
+  pub first : timeOf (ascii "0001-01-01T00:00:00-00:00") ≡ gives (negℤ (pos 62_135_596_800))
   -- 10:00:00-00:00 to 11:15:00+01:00, same day: fifteen minutes
-  pub from : timeOf (ascii "2026-11-15T10:00:00-00:00") ≡ Instant ten
-  pub to : timeOf (ascii "2026-11-15T11:15:00+01:00") ≡ Instant quarterPast
+  pub from : timeOf (ascii "2026-11-15T10:00:00-00:00") ≡ gives ten
+  pub to : timeOf (ascii "2026-11-15T11:15:00+01:00") ≡ gives quarterPast
   pub apart : quarterPast -ℤ ten ≡ pos 900
   pub lasts : duration 900 ≡ ascii "fifteen minutes"
   -- 31,536,000 s: three hundred sixty five days; 31,536,001: refusal 7
@@ -47,8 +45,8 @@ pub record Starred : Type 0 where
   pub above : received (stored 9 ∷ []) (packetWith 10 60) (21 ∷ []) true 0 .answer ≡ gives tt
   -- 1,000 m: u is 89,932; due north 89,932 inside, 89,933 outside
   pub units : unitsOf 1_000 ≡ 89_932
-  pub inside : aroundHolds (north 0) 1_000 (north 89_932) ≡ Inside
-  pub outside : aroundHolds (north 0) 1_000 (north 89_933) ≡ Outside
+  pub inside : aroundHolds (north 0) 1_000 (north 89_932) ≡ gives true
+  pub outside : aroundHolds (north 0) 1_000 (north 89_933) ≡ gives false
 
 pub starred : Starred
 starred = record {

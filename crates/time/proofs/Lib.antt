@@ -3,4 +3,4 @@ mod Days
 mod Forms
 mod Bounds
 mod Seconds
-mod Answer
+pub mod Answer

@@ -6,6 +6,7 @@ use Prim.Native.Char.{code}
 use lib.Dec.{eqb, leb}
 use lib.IntN.{ℤ, pos, negℤ, _-ℤ_}
 use lib.ListN.{length, take, drop, getD}
+use Rattle.text.specs.Answers.{Answer, gives, refuses}
 use Rattle.text.specs.Ascii.{ascii}
 use Rattle.text.specs.Bytes.{isDigit, dropSpace, allSpace, number}
 use Rattle.time.specs.declared.Stamp.{Stamp}
@@ -94,12 +95,14 @@ instantOf t = pos (localSeconds t) -ℤ pos epoch -ℤ offset t
 
 -- ---- "Times may have white space around them, then the form". Z is not of the form, and so refused.
 
-unfoldable pub stampTime : List ℕ → Time
-stampTime l = cond (hasForm form l && isStamp (stampOf l)) (Instant (instantOf (stampOf l))) Fault
+-- 18: "time"
+unfoldable pub stampTime : List ℕ → Answer ℤ
+stampTime l = cond (hasForm form l && isStamp (stampOf l)) (gives (instantOf (stampOf l))) (refuses 18 0)
 
 -- what a text says: white space, the form's 25 bytes, white space
-unfoldable pub timeOf : List ℕ → Time
-timeOf l =
-    cond (allSpace (drop (length form) (dropSpace l)))
-    (stampTime (take (length form) (dropSpace l)))
-    Fault
+unfoldable pub timeOf : List ℕ → Answer ℤ
+timeOf l = cond (allSpace (drop (length form) (dropSpace l))) (stampTime (take (length form) (dropSpace l))) (refuses 18 0)
+
+abbrev pub timeAnswer : Time → Answer ℤ
+timeAnswer (Instant z) = gives z
+timeAnswer Fault = refuses 18 0

@@ -6,7 +6,7 @@ mod limits;
 
 ghost use mathlib.Core.Path.{_≡_};
 ghost use lib.ListN.{length};
-ghost use Rattle.time.specs.Time.{form, stampTime, timeOf};
+ghost use Rattle.time.specs.Time.{form, stampTime, timeOf, timeAnswer};
 
 // How many bytes the form of a time has.
 const FORM_LENGTH: usize = 25;
@@ -33,7 +33,7 @@ pub enum Time {
 // The instant that a text of the form's length names.
 fn stamp_time(text: &[u8]) -> Time
     requires { ⌜ length (now text) ≡ length form ⌝ }
-    ensures { λ r. ⌜ r ≡ stampTime (now (text .entry)) ⌝ }
+    ensures { λ r. ⌜ timeAnswer r ≡ stampTime (now (text .entry)) ⌝ }
 {
     if !form::has_time_form(text) {
         return Time::Fault;
@@ -48,7 +48,7 @@ fn stamp_time(text: &[u8]) -> Time
 
 // The instant that a text names: white space, the form's bytes, white space.
 pub fn read_time(text: &[u8]) -> Time
-    ensures { λ r. ⌜ r ≡ timeOf (now (text .entry)) ⌝ }
+    ensures { λ r. ⌜ timeAnswer r ≡ timeOf (now (text .entry)) ⌝ }
 {
     let start = text::skip_space(text, 0);
     if text.len() - start < FORM_LENGTH {

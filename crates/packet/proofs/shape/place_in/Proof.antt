@@ -1,7 +1,8 @@
 -- `place_in` meets its contract: by the place's range, and by the side of the circle.
-use mathlib.Core.Path.{sym, _∙_}
+use mathlib.Core.Path.{sym, ap, _∙_}
 use borrow.Author.Needs.{needs}
 use borrow.Author.Tests.{not-true, not-false}
+use Rattle.coordinates.specs.Answers.{inclusionAnswer}
 use Rattle.packet.proofs.Sides.{always-a-circle}
 use Rattle.packet.proofs.shape.place_in.Statement.{statement}
 use Rattle.packet.proofs.shape.place_in.Tie as tie
@@ -37,7 +38,8 @@ returns-3 c =
 
 returns-4 : tie.Need-returns-4
 returns-4 c =
-    absurd (always-a-circle _ _ _ (c .before .before .before .metres .ensures .1) (sym (c .before .before .around-holds .ensures) ∙ c .enum-told3 .given .1))
+    absurd (always-a-circle _ _ _ (c .before .before .before .metres .ensures .1) (sym (c .before .before .around-holds .ensures)
+    ∙ ap inclusionAnswer (c .enum-told3 .given .1)))
 
 pub place-in-spec : {M : Type 1} → statement M
 place-in-spec =
