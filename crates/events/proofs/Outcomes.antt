@@ -1,25 +1,25 @@
 -- The checks, the pass over the entries and the plan come to `received`, over entries of any number.
 use mathlib.Core.Path.{_≡_, refl, sym, _∙_, ap}
-use mathlib.Core.Bool.{Bool, true, false, cond, not}
+use mathlib.Core.Bool.{Bool, true, false, cond}
 use mathlib.Core.List.{List}
-use Prim.Native.Nat.{ℕ, _≤_}
-use native.Mathlib.Nat.{le-refl}
+use Prim.Native.Nat.{ℕ, _<_}
+use borrow.Author.Tests.{ltb-true}
 use lib.Dec.{ltb}
 use lib.ListN.{length, getD, set, length-set}
-use lib.Seq.{set-out}
-use Rattle.packet.specs.declared.Fields.{Fields}
-use Rattle.packet.specs.declared.Fault.{Fault}
-use Rattle.packet.specs.declared.Packet.{Packet}
-use Rattle.packet.specs.declared.Packet.the-variants as packet
+use Rattle.text.specs.Logic.{cond-cases, clash}
+use Rattle.text.specs.Answers.{gives, refuses, andThen}
 use Rattle.packet.specs.Packet.{packetOf}
 use Rattle.events.specs.declared.Entry.{Entry}
-use Rattle.events.specs.declared.Receipt.{Receipt}
-use Rattle.events.specs.declared.Receipt.the-variants.{Accepted, ClockOutOfRange, UnknownKey, Unverified, NotAbove, Full, Refused}
+use Rattle.events.specs.declared.New.{New}
+use Rattle.events.specs.declared.Refusal.{Refusal}
+use Rattle.events.specs.declared.Refusal.the-variants.{NotAbove, Full}
 use Rattle.events.specs.declared.checks.Checked.{Checked}
+use Rattle.events.specs.declared.checks.Checked.the-variants as passed
 use Rattle.events.specs.declared.plans.Candidates.{Candidates}
 use Rattle.events.specs.declared.plans.Plan.{Plan}
-use Rattle.events.specs.Table.{blank, indexOf, freeIndex, positionOf, renewed, fresh, outcome, again, anew, tableOutcome, isClockOutOfRange, isListed, answered, received}
-use Rattle.events.specs.Steps.{stopped, passing, checkedFields, checked, scanned, positionIn, storing, refusing, planned, decided, carriedOut, accepting}
+use Rattle.events.specs.declared.plans.Plan.the-variants.{Store, Refused}
+use Rattle.events.specs.Table.{blank, indexOf, freeIndex, positionOf, renewed, fresh, Outcome, outcome, again, anew, tableOutcome, checked, answered, received, refusalNumber}
+use Rattle.events.specs.Steps.{checkedAnswer, scanned, positionIn, decided}
 
 -- ---- where an event stands
 
@@ -29,73 +29,68 @@ pub position-is :
 unfolding positionOf
 position-is key event es s e n long = rw (long, e)
 
+-- an outcome as its answer and its entries
+pub answer-and-entries : {o q : Outcome} → o ≡ q → (o .answer ≡ q .answer) × (o .entries ≡ q .entries)
+answer-and-entries e = (ap (λ (o : Outcome). o .answer) e, ap (λ (o : Outcome). o .entries) e)
+
 -- ---- the plan
 
+-- a plan carried out
+abbrev pub carriedOut : Plan → List Entry → Outcome
+carriedOut (Store i e) es = outcome (gives tt) (set es i e)
+carriedOut (Refused r) es = outcome (refuses (refusalNumber r) 0) es
+
 carried-cases : (es : List Entry) (k j : ℕ) (x y : Entry) (t u w : Bool)
-    → carriedOut (cond t (cond u (storing k x) (refusing (length es) NotAbove)) (cond w (storing j y) (refusing (length es) Full))) es
-    ≡ cond t (cond u (outcome Accepted (set es k x)) (outcome NotAbove es)) (cond w (outcome Accepted (set es j y)) (outcome Full es))
-unfolding carriedOut
+    → carriedOut (cond t (cond u (Store k x) (Refused NotAbove)) (cond w (Store j y) (Refused Full))) es
+    ≡ cond t (cond u (outcome (gives tt) (set es k x)) (outcome (refuses 10 0) es)) (cond w (outcome (gives tt) (set es j y)) (outcome (refuses 11 0) es))
 carried-cases es k j x y true true w = refl
-carried-cases es k j x y true false w = ap (outcome NotAbove) (set-out es (length es) blank (le-refl (length es)))
+carried-cases es k j x y true false w = refl
 carried-cases es k j x y false u true = refl
-carried-cases es k j x y false u false = ap (outcome Full) (set-out es (length es) blank (le-refl (length es)))
+carried-cases es k j x y false u false = refl
 
-accepting-is : (clock : ℕ) (f : Fields) (es : List Entry) → accepting (passing (fresh clock f)) es ≡ tableOutcome clock f es
-unfolding accepting planned tableOutcome again anew
-accepting-is clock f es =
-    carried-cases es (indexOf (f .key) (f .event) es) (freeIndex es)
-    (renewed clock f (getD es (indexOf (f .key) (f .event) es) blank)) (fresh clock f)
-    (ltb (indexOf (f .key) (f .event) es) (length es)) (ltb (getD es (indexOf (f .key) (f .event) es) blank .sequence) (f .sequence))
-    (ltb (freeIndex es) (length es))
+module _ (es : List Entry) (new : New) (s : Candidates) (e : s ≡ scanned (new .key) (new .event) es) (n : ℕ) (long : length es ≡ n) (p : Plan)
+    (q : p ≡ decided s n new) where
+  pub carried-is : carriedOut p es ≡ tableOutcome new es
+  unfolding decided tableOutcome again anew
+  carried-is =
+      rw (q, e, ← long)
+      (carried-cases es (indexOf (new .key) (new .event) es) (freeIndex es) (renewed new (getD es (indexOf (new .key) (new .event) es) blank)) (fresh new)
+      (ltb (indexOf (new .key) (new .event) es) (length es)) (ltb (getD es (indexOf (new .key) (new .event) es) blank .sequence) (new .sequence))
+      (ltb (freeIndex es) (length es)))
 
--- a packet that is refused leaves the entries
-stopped-is : (r : Receipt) (es : List Entry) → accepting (stopped r) es ≡ outcome r es
-unfolding accepting carriedOut
-stopped-is r es = ap (outcome r) (set-out es (length es) blank (le-refl (length es)))
+  pub stored-is : (i : ℕ) (x : Entry) → p ≡ Store i x → outcome (gives tt) (set es i x) ≡ tableOutcome new es
+  stored-is i x r = ap (λ (o : Plan). carriedOut o es) (sym r) ∙ carried-is
 
-module _ (es : List Entry) (c : Checked) (s : Candidates) (e : s ≡ scanned (c .entry .key) (c .entry .event) es) (n : ℕ) (long : length es ≡ n)
-    (p : Plan) (q : p ≡ decided s n c) where
-  pub stored-is : outcome (p .receipt) (set es (p .at) (p .entry)) ≡ accepting c es
-  unfolding accepting carriedOut
-  stored-is = rw (q, e, long)
+  pub refused-is : (r : Refusal) → p ≡ Refused r → outcome (refuses (refusalNumber r) 0) es ≡ tableOutcome new es
+  refused-is r h = ap (λ (o : Plan). carriedOut o es) (sym h) ∙ carried-is
 
-  -- an index past the entries: nothing is stored
-  pub unstored-is : n ≤ p .at → outcome (p .receipt) es ≡ accepting c es
-  unstored-is h = ap (outcome (p .receipt)) (sym (set-out es (p .at) (p .entry) (rw long h))) ∙ stored-is
+-- an entry is stored within the entries
+abbrev pub Within : ℕ → Plan → Type 0
+Within n p = (i : ℕ) (x : Entry) → p ≡ Store i x → i < n
 
--- ---- the checks
+pub store-within : (s : Candidates) (n : ℕ) (new : New) → Within n (decided s n new)
+unfolding decided
+store-within s n new =
+    cond-cases (Within n) (ltb (s .known) n) _ _
+    (λ t. cond-cases (Within n) (ltb (s .entry .sequence) (new .sequence)) _ _
+    (λ _ i x e. let q : s .known ≡ i = cc in rw (← q) (ltb-true (s .known) n t)) (λ _ i x e. clash (cc)))
+    (λ _. cond-cases (Within n) (ltb (s .free) n) _ _
+    (λ t i x e. let q : s .free ≡ i = cc in rw (← q) (ltb-true (s .free) n t)) (λ _ i x e. clash (cc)))
 
-module _ (keys : List ℕ) (verdict : Bool) (clock : ℕ) where
-  pub refused-is :
-      (q r : Packet) → q ≡ r → (e : Fault) → q ≡ packet.Refused e → (x : Checked) → x ≡ stopped (Refused e) → x ≡ checked keys verdict clock r
-  refused-is q r a e b x c = rw (← a, b) c
+-- ---- what is received, by what was checked
 
-  pub checked-is :
-      (q r : Packet) → q ≡ r → (f : Fields) → q ≡ packet.Alert f → (x : Checked) → x ≡ checkedFields keys verdict clock f
-      → x ≡ checked keys verdict clock r
-  checked-is q r a f b x c = rw (← a, b) c
+module _ (es : List Entry) (p keys : List ℕ) (verdict : Bool) (clock : ℕ) (c : Checked) (e : checkedAnswer c ≡ andThen (packetOf p) (checked keys verdict clock)) where
+  pub received-is : answered es (checkedAnswer c) ≡ received es p keys verdict clock
+  unfolding received
+  received-is = ap (answered es) e
 
-  module _ (es : List Entry) where
-    answered-cases : (f : Fields) (t u w : Bool)
-        → cond t (outcome ClockOutOfRange es) (cond (not u) (outcome UnknownKey es) (cond (not w) (outcome Unverified es) (tableOutcome clock f es)))
-        ≡ accepting (cond t (stopped ClockOutOfRange)
-        (cond (not u) (stopped UnknownKey) (cond (not w) (stopped Unverified) (passing (fresh clock f))))) es
-    answered-cases f true u w = sym (stopped-is ClockOutOfRange es)
-    answered-cases f false false w = sym (stopped-is UnknownKey es)
-    answered-cases f false true false = sym (stopped-is Unverified es)
-    answered-cases f false true true = sym (accepting-is clock f es)
+  pub received-passed : (new : New) → c ≡ passed.Passed new → tableOutcome new es ≡ received es p keys verdict clock
+  received-passed new q = ap (λ (x : Checked). answered es (checkedAnswer x)) (sym q) ∙ received-is
 
-    answered-is : (q : Packet) → answered keys verdict clock es q ≡ accepting (checked keys verdict clock q) es
-    unfolding checkedFields
-    answered-is (packet.Refused e) = sym (stopped-is (Refused e) es)
-    answered-is (packet.Alert f) = answered-cases f (isClockOutOfRange clock) (isListed keys (f .key)) verdict
-
-    -- the checks, then the table's own
-    pub received-is : (p : List ℕ) → received es p keys verdict clock ≡ accepting (checked keys verdict clock (packetOf p)) es
-    unfolding received
-    received-is p = answered-is (packetOf p)
+  pub received-refused : (r : Refusal) → c ≡ passed.Refused r → outcome (refuses (refusalNumber r) 0) es ≡ received es p keys verdict clock
+  received-refused r q = ap (λ (x : Checked). answered es (checkedAnswer x)) (sym q) ∙ received-is
 
 -- the table keeps its number of entries
-pub accepting-length : (c : Checked) (es : List Entry) → length (accepting c es .entries) ≡ length es
-unfolding accepting carriedOut
-accepting-length c es = length-set es _ _
+pub carried-length : (p : Plan) (es : List Entry) → length (carriedOut p es .entries) ≡ length es
+carried-length (Store i x) es = length-set es i x
+carried-length (Refused r) es = refl

@@ -1,6 +1,6 @@
 -- Laws of the first entry that passes a test, of one pass over the entries, and of the key list.
 use mathlib.Core.Path.{_≡_, refl, sym, _∙_, ap}
-use mathlib.Core.Bool.{Bool, true, false, cond}
+use mathlib.Core.Bool.{Bool, true, false, cond, false≢true}
 use mathlib.Core.List.{List, [], _∷_, _++_}
 use Prim.Native.Nat.{ℕ, zero, suc, _+_, _≤_, _<_, zero-le, suc-le-suc}
 use native.Mathlib.Nat.{le-of-suc-le-suc, not-suc-le-zero}
@@ -15,7 +15,7 @@ use Rattle.events.specs.declared.Entry.{Entry}
 use Rattle.events.specs.declared.plans.Candidates.{Candidates}
 use Rattle.events.specs.Table.{blank, firstIndex, isOf, isFree, isListed}
 use Rattle.events.specs.Steps.{scanned, nextIndex, nextEntry, scanStep}
-use Rattle.events.specs.Demand2.{FirstAt}
+use Rattle.events.specs.Demand2.{FirstAt, NoneOf}
 
 -- ---- the first index
 
@@ -37,10 +37,45 @@ module _ (f : Entry → Bool) where
         earlier = λ k h. a .earlier (suc k) (suc-le-suc h);
       })))
 
-  pub index-none : (es : List Entry) → ((k : ℕ) → k < length es → f (getD es k blank) ≡ false) → firstIndex f es ≡ length es
+  pub index-none : (es : List Entry) → NoneOf f es → firstIndex f es ≡ length es
   unfolding firstIndex
   index-none [] n = refl
   index-none (e ∷ es) n = rw (n 0 (suc-le-suc zero-le)) (ap suc (index-none es (λ k h. n (suc k) (suc-le-suc h))))
+
+  -- an index among the entries is the first
+  pub first-at : (es : List Entry) → firstIndex f es < length es → FirstAt f es (firstIndex f es)
+  unfolding firstIndex
+  first-at [] h = absurd (not-suc-le-zero h)
+  first-at (e ∷ es) h = cases (f e) refl h (first-at es)
+    where
+      cases : (t : Bool) → f e ≡ t → cond t 0 (suc (firstIndex f es)) < suc (length es)
+          → (firstIndex f es < length es → FirstAt f es (firstIndex f es)) → FirstAt f (e ∷ es) (cond t 0 (suc (firstIndex f es)))
+      cases true t h rest = record { within = h; passes = t; earlier = λ k l. absurd (not-suc-le-zero l) }
+      cases false t h rest = let a = rest (le-of-suc-le-suc h) in
+          record { within = h; passes = a .passes; earlier = λ k l. before k l a }
+        where
+          before : (k : ℕ) → k < suc (firstIndex f es) → FirstAt f es (firstIndex f es) → f (getD (e ∷ es) k blank) ≡ false
+          before zero l a = t
+          before (suc k) l a = a .earlier k (le-of-suc-le-suc l)
+
+  -- and past them there is none
+  pub none-of : (es : List Entry) → length es ≤ firstIndex f es → NoneOf f es
+  unfolding firstIndex
+  none-of [] h k l = absurd (not-suc-le-zero l)
+  none-of (e ∷ es) h k l = cases (f e) refl h k l (none-of es)
+    where
+      cases : (t : Bool) → f e ≡ t → suc (length es) ≤ cond t 0 (suc (firstIndex f es)) → (k : ℕ) → k < suc (length es)
+          → (length es ≤ firstIndex f es → NoneOf f es) → f (getD (e ∷ es) k blank) ≡ false
+      cases true t h k l rest = absurd (not-suc-le-zero h)
+      cases false t h zero l rest = t
+      cases false t h (suc k) l rest = rest (le-of-suc-le-suc h) k (le-of-suc-le-suc l)
+
+  -- an entry that passes is at the first index or later
+  pub index-below : (es : List Entry) (k : ℕ) → k < length es → f (getD es k blank) ≡ true → firstIndex f es < length es
+  index-below es k h e =
+      by-test (ltb (firstIndex f es) (length es))
+      (ltb-true (firstIndex f es) (length es))
+      (λ t. absurd (false≢true (sym (none-of es (ltb-false (firstIndex f es) (length es) t) k h) ∙ e)))
 
   next-suc : (k n : ℕ) (t : Bool) → suc (nextIndex k n (n + 1) t) ≡ nextIndex (suc k) (suc n) (suc n + 1) t
   next-suc k n t = cases (ltb k n) t refl

@@ -1,13 +1,18 @@
 -- Laws of a sweep, over entries of any number.
 use mathlib.Core.Path.{_≡_, refl, sym, _∙_, ap}
+use mathlib.Core.Bool.{true, false, false≢true}
 use mathlib.Core.List.{List, [], _∷_, _++_, append-nil}
-use Prim.Native.Nat.{ℕ, suc, _+_, _≤_, _<_}
+use Prim.Native.Nat.{ℕ, zero, suc, _+_, _≤_, _<_}
+use native.Mathlib.Nat.{le-of-suc-le-suc, not-suc-le-zero}
 use native.Mathlib.Numerals.{add-one}
 use native.Mathlib.Omega.{arith}
 use lib.ListN.{length, getD, take, drop, set, drop-of-length-le, length-append, take-append-drop}
 use lib.Seq.{drop-cons, take-suc, take-all, length-take-le, set-at, getD-at, append-snoc}
+use Rattle.text.specs.Logic.{by-test}
 use Rattle.events.specs.declared.Entry.{Entry}
-use Rattle.events.specs.Table.{blank, swept, sweptAll}
+use Rattle.events.specs.Table.{blank, isOf, isFree, freeIndex, isStale, swept, sweptAll}
+use Rattle.events.specs.Demand2.{NoneOf}
+use Rattle.events.proofs.Search.{index-below}
 
 module _ (time : ℕ) where
   swept-length : (es : List Entry) → length (sweptAll time es) ≡ length es
@@ -19,6 +24,27 @@ module _ (time : ℕ) where
   unfolding sweptAll
   swept-append [] fs = refl
   swept-append (e ∷ es) fs = ap (λ (r : List Entry). swept time e ∷ r) (swept-append es fs)
+
+  swept-at : (es : List Entry) (k : ℕ) → k < length es → getD (sweptAll time es) k blank ≡ swept time (getD es k blank)
+  unfolding sweptAll
+  swept-at [] k h = absurd (not-suc-le-zero h)
+  swept-at (e ∷ es) zero h = refl
+  swept-at (e ∷ es) (suc k) h = swept-at es k (le-of-suc-le-suc h)
+
+  -- an event all of whose entries are stale has none afterwards
+  pub swept-none : (key event : ℕ) (es : List Entry)
+      → ((j : ℕ) → j < length es → isOf key event (getD es j blank) ≡ true → isStale time (getD es j blank) ≡ true)
+      → NoneOf (isOf key event) (sweptAll time es)
+  swept-none key event es stale k h =
+      let l : k < length es = rw (← swept-length es) h in
+      rw (swept-at es k l) (gone (getD es k blank) (stale k l))
+    where
+      gone : (e : Entry) → (isOf key event e ≡ true → isStale time e ≡ true) → isOf key event (swept time e) ≡ false
+      gone e s = by-test (isStale time e) (λ t. rw t) (λ t. rw t (by-test (isOf key event e) (λ u. absurd (false≢true (sym t ∙ s u))) (λ u. u)))
+
+  -- a stale entry is free afterwards
+  pub swept-free : (es : List Entry) (k : ℕ) → k < length es → isStale time (getD es k blank) ≡ true → freeIndex (sweptAll time es) < length (sweptAll time es)
+  swept-free es k h e = index-below isFree (sweptAll time es) k (rw (swept-length es) h) (rw (swept-at es k h, e))
 
 -- with the first i entries swept
 abbrev pub sweptTo : ℕ → List Entry → ℕ → List Entry

@@ -1,39 +1,25 @@
--- Bench samples of document 01 on sequence numbers, over the definitions.
+-- Bench samples of document 01 on packets, over the definitions.
 use mathlib.Core.Path.{_≡_, refl}
 use mathlib.Core.Bool.{true, false}
-use mathlib.Core.List.{[], _∷_}
-use Prim.Native.Nat.{ℕ}
-use lib.IntN.{pos}
-use Rattle.packet.specs.declared.Fields.{Fields}
+use mathlib.Core.List.{List, [], _∷_, _++_}
+use Prim.Native.Nat.{ℕ, zero, suc, _/_, _%_, _^_}
+use Rattle.text.specs.Ascii.{ascii}
+use Rattle.text.specs.Answers.{gives, refuses, giving}
+use Rattle.packet.specs.BigEndian.{bigEndianFrom, numberOf}
+use Rattle.packet.specs.Packet.{flag, coordinate, fieldsOf, lastingOf, packetOf}
 use Rattle.events.specs.declared.Entry.{Entry}
-use Rattle.events.specs.declared.Receipt.the-variants.{Accepted, NotAbove}
-use Rattle.events.specs.Table.{firstIndex, again, tableOutcome}
+use Rattle.events.specs.Table.{firstIndex, again, tableOutcome, isListed, checked, received}
 
--- a packet of event 7 under key 21 with a sequence number
-abbrev pub numbered : ℕ → Fields
-numbered n = record {
-  urgent = false;
-  update = false;
-  cancel = false;
-  test = false;
-  timestamp = 0;
-  event = 7;
-  sequence = n;
-  ttl = 60;
-  «hazard_major» = 0;
-  «hazard_minor» = 0;
-  urgency = 0;
-  severity = 0;
-  certainty = 0;
-  response = 0;
-  onset = 0;
-  expiry = 0;
-  effective = 0;
-  lat = pos 0;
-  lon = pos 0;
-  radius = 0;
-  key = 21;
-}
+-- a number in `width` bytes
+abbrev pub bytesOf : (width n : ℕ) → List ℕ
+bytesOf zero n = []
+bytesOf (suc width) n = n / 0x100 ^ width % 0x100 ∷ bytesOf width n
+
+-- an ALERT of 132 bytes: event 7 under key 21, timestamp 0, ttl 60, all else 0
+abbrev pub packetWith : (sequence expiry : ℕ) → List ℕ
+packetWith sequence expiry =
+    ascii "WARN" ++ bytesOf 2 0x0100 ++ bytesOf 2 0x8000 ++ bytesOf 8 0 ++ bytesOf 4 7 ++ bytesOf 2 sequence ++ bytesOf 2 60 ++ bytesOf 14 0
+    ++ bytesOf 8 expiry ++ bytesOf 18 0 ++ bytesOf 4 21 ++ bytesOf 64 0
 
 -- that event's entry with a stored number
 abbrev pub stored : ℕ → Entry
@@ -41,8 +27,14 @@ stored n = record { used = true; key = 21; event = 7; sequence = n; cancelled = 
 
 -- stored 9: 9 refused, 10 taken; stored 65,535: all refused
 pub sample-stored :
-    (tableOutcome 0 (numbered 9) (stored 9 ∷ []) .receipt ≡ NotAbove)
-    × (tableOutcome 0 (numbered 10) (stored 9 ∷ []) .receipt ≡ Accepted)
-    × (tableOutcome 0 (numbered 65_535) (stored 65_535 ∷ []) .receipt ≡ NotAbove)
-unfolding firstIndex again tableOutcome
+    (received (stored 9 ∷ []) (packetWith 9 60) (21 ∷ []) true 0 .answer ≡ refuses 10 0)
+    × (received (stored 9 ∷ []) (packetWith 10 60) (21 ∷ []) true 0 .answer ≡ gives tt)
+    × (received (stored 65_535 ∷ []) (packetWith 65_535 60) (21 ∷ []) true 0 .answer ≡ refuses 10 0)
+unfolding bigEndianFrom numberOf flag coordinate fieldsOf packetOf firstIndex again tableOutcome isListed checked received
 sample-stored = (refl, refl, refl)
+
+-- 31,536,000 s are taken; 31,536,001: refusal 7
+pub sample-lasting :
+    (giving lastingOf (packetOf (packetWith 1 31_536_000)) ≡ gives 31_536_000) × (packetOf (packetWith 1 31_536_001) ≡ refuses 7 0)
+unfolding bigEndianFrom numberOf flag coordinate fieldsOf packetOf
+sample-lasting = (refl, refl)

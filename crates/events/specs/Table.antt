@@ -4,13 +4,15 @@ use mathlib.Core.List.{List, [], _∷_}
 use Prim.Native.Nat.{ℕ, suc, _+_}
 use lib.Dec.{eqb, ltb}
 use lib.ListN.{length, getD, set}
+use Rattle.text.specs.Answers.{Answer, gives, refuses, andThen}
 use Rattle.packet.specs.declared.Fields.{Fields}
-use Rattle.packet.specs.declared.Packet.{Packet}
-use Rattle.packet.specs.declared.Packet.the-variants as packet
 use Rattle.packet.specs.Packet.{packetOf, faultNumber}
 use Rattle.events.specs.declared.Entry.{Entry}
+use Rattle.events.specs.declared.New.{New}
+use Rattle.events.specs.declared.Refusal.{Refusal}
+use Rattle.events.specs.declared.Refusal.the-variants.{ClockOutOfRange, UnknownKey, Unverified, NotAbove, Full, Packet}
 use Rattle.events.specs.declared.Receipt.{Receipt}
-use Rattle.events.specs.declared.Receipt.the-variants.{Accepted, ClockOutOfRange, UnknownKey, Unverified, NotAbove, Full, Refused}
+use Rattle.events.specs.declared.Receipt.the-variants.{Accepted, Refused}
 use Rattle.events.specs.declared.Position.{Position}
 use Rattle.events.specs.declared.Position.the-variants.{At, Nowhere}
 
@@ -45,54 +47,58 @@ positionOf key event es = cond (ltb (indexOf key event es) (length es)) (At (ind
 
 -- ---- acceptance
 
+-- what a packet that passes every check before the table's own stores; its keep-until is "now plus ttl"
+abbrev pub newOf : ℕ → Fields → New
+newOf clock f = record { key = f .key; event = f .event; sequence = f .sequence; cancelled = f .cancel; «keep_until» = clock + f .ttl }
+
 -- "On acceptance the entry takes the packet's sequence number and CANCEL flag, and keep-until becomes the larger of its old one and now plus ttl."
-abbrev pub renewed : ℕ → Fields → Entry → Entry
-renewed clock f e = record {
+abbrev pub renewed : New → Entry → Entry
+renewed new e = record {
   used = e .used;
   key = e .key;
   event = e .event;
-  sequence = f .sequence;
-  cancelled = f .cancel;
-  «keep_until» = cond (ltb (e .«keep_until») (clock + f .ttl)) (clock + f .ttl) (e .«keep_until»);
+  sequence = new .sequence;
+  cancelled = new .cancelled;
+  «keep_until» = cond (ltb (e .«keep_until») (new .«keep_until»)) (new .«keep_until») (e .«keep_until»);
 }
 
 -- "A new event takes the lowest free entry, now used under its key id and event, with any sequence number; its
 -- keep-until is now plus ttl, whatever the free entry held."
-abbrev pub fresh : ℕ → Fields → Entry
-fresh clock f = record {
+abbrev pub fresh : New → Entry
+fresh new = record {
   used = true;
-  key = f .key;
-  event = f .event;
-  sequence = f .sequence;
-  cancelled = f .cancel;
-  «keep_until» = clock + f .ttl;
+  key = new .key;
+  event = new .event;
+  sequence = new .sequence;
+  cancelled = new .cancelled;
+  «keep_until» = new .«keep_until»;
 }
 
--- the answer, and the entries afterwards
+-- "Acceptance answers just that": the answer, and the entries afterwards
 pub record Outcome : Type 0 where
-  pub receipt : Receipt
+  pub answer : Answer Prim.Unit
   pub entries : List Entry
 
-abbrev pub outcome : Receipt → List Entry → Outcome
-outcome r es = record { receipt = r; entries = es }
+abbrev pub outcome : Answer Prim.Unit → List Entry → Outcome
+outcome a es = record { answer = a; entries = es }
 
 -- an event with an entry at index i: 10 unless the number is above the stored one
-unfoldable pub again : ℕ → Fields → List Entry → ℕ → Outcome
-again clock f es i =
-    cond (ltb (getD es i blank .sequence) (f .sequence))
-    (outcome Accepted (set es i (renewed clock f (getD es i blank))))
-    (outcome NotAbove es)
+unfoldable pub again : New → List Entry → ℕ → Outcome
+again new es i =
+    cond (ltb (getD es i blank .sequence) (new .sequence))
+    (outcome (gives tt) (set es i (renewed new (getD es i blank))))
+    (outcome (refuses 10 0) es)
 
 -- an event without an entry, the lowest free one being at index i: 11 where there is none
-unfoldable pub anew : ℕ → Fields → List Entry → ℕ → Outcome
-anew clock f es i = cond (ltb i (length es)) (outcome Accepted (set es i (fresh clock f))) (outcome Full es)
+unfoldable pub anew : New → List Entry → ℕ → Outcome
+anew new es i = cond (ltb i (length es)) (outcome (gives tt) (set es i (fresh new))) (outcome (refuses 11 0) es)
 
 -- 10 and 11, by the table
-unfoldable pub tableOutcome : ℕ → Fields → List Entry → Outcome
-tableOutcome clock f es =
-    cond (ltb (indexOf (f .key) (f .event) es) (length es))
-    (again clock f es (indexOf (f .key) (f .event) es))
-    (anew clock f es (freeIndex es))
+unfoldable pub tableOutcome : New → List Entry → Outcome
+tableOutcome new es =
+    cond (ltb (indexOf (new .key) (new .event) es) (length es))
+    (again new es (indexOf (new .key) (new .event) es))
+    (anew new es (freeIndex es))
 
 -- ---- "on receipt then 12, 8, 9, 10, 11"
 
@@ -104,26 +110,37 @@ unfoldable pub isListed : List ℕ → ℕ → Bool
 isListed [] key = false
 isListed (k ∷ ks) key = cond (eqb k key) true (isListed ks key)
 
-abbrev pub answered : List ℕ → Bool → ℕ → List Entry → Packet → Outcome
-answered keys verdict clock es (packet.Refused e) = outcome (Refused e) es
-answered keys verdict clock es (packet.Alert f) =
-    cond (isClockOutOfRange clock) (outcome ClockOutOfRange es)
-    (cond (not (isListed keys (f .key))) (outcome UnknownKey es)
-    (cond (not verdict) (outcome Unverified es)
-    (tableOutcome clock f es)))
+-- 12, 8 and 9, after the packet's own
+unfoldable pub checked : List ℕ → Bool → ℕ → Fields → Answer New
+checked keys verdict clock f =
+    cond (isClockOutOfRange clock) (refuses 12 0)
+    (cond (not (isListed keys (f .key))) (refuses 8 0)
+    (cond (not verdict) (refuses 9 0)
+    (gives (newOf clock f))))
+
+abbrev pub answered : List Entry → Answer New → Outcome
+answered es (gives new) = tableOutcome new es
+answered es (refuses n at) = outcome (refuses n at) es
 
 unfoldable pub received : List Entry → List ℕ → List ℕ → Bool → ℕ → Outcome
-received es p keys verdict clock = answered keys verdict clock es (packetOf p)
+received es p keys verdict clock = answered es (andThen (packetOf p) (checked keys verdict clock))
 
--- document 01's number for each answer, 0 for acceptance; a refusal's offset is 0
-abbrev pub receiptNumber : Receipt → ℕ
-receiptNumber Accepted = 0
-receiptNumber ClockOutOfRange = 12
-receiptNumber UnknownKey = 8
-receiptNumber Unverified = 9
-receiptNumber NotAbove = 10
-receiptNumber Full = 11
-receiptNumber (Refused e) = faultNumber e
+abbrev pub refusalNumber : Refusal → ℕ
+refusalNumber ClockOutOfRange = 12
+refusalNumber UnknownKey = 8
+refusalNumber Unverified = 9
+refusalNumber NotAbove = 10
+refusalNumber Full = 11
+refusalNumber (Packet e) = faultNumber e
+
+abbrev pub receiptAnswer : Receipt → Answer Prim.Unit
+receiptAnswer Accepted = gives tt
+receiptAnswer (Refused r) = refuses (refusalNumber r) 0
+
+-- the answer as a number: 0 is acceptance
+abbrev pub answerNumber : Answer Prim.Unit → ℕ
+answerNumber (gives u) = 0
+answerNumber (refuses n at) = n
 
 -- ---- "Sweeping at a time frees exactly the used entries whose keep-until is below it, touching only their used mark."
 

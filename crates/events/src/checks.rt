@@ -1,20 +1,19 @@
 // The checks before the table: the packet's own, then the clock (12), the key (8) and the verdict (9).
-use crate::Entry;
-use crate::Receipt;
-use crate::entries;
+use crate::New;
+use crate::Refusal;
 use packet::Fields;
 use packet::Packet;
 ghost use mathlib.Core.Path.{_≡_};
-ghost use Rattle.packet.specs.Packet.{packetOf};
 ghost use Prim.Native.Nat.{_≤_};
-ghost use Rattle.events.specs.Table.{isListed, fresh};
-ghost use Rattle.events.specs.Steps.{stopped, checked, checkedFields};
+ghost use Rattle.text.specs.Answers.{andThen};
+ghost use Rattle.packet.specs.Packet.{packetOf};
+ghost use Rattle.events.specs.Table.{newOf, isListed, checked};
+ghost use Rattle.events.specs.Steps.{checkedAnswer};
 
-// What the checks come to: the entry that the packet makes for a new event, or why the packet is refused.
-pub struct Checked {
-    pub passed: bool,
-    pub receipt: Receipt,
-    pub entry: Entry,
+// What the checks come to: what the packet stores, or why it is refused.
+pub enum Checked {
+    Passed(New),
+    Refused(Refusal),
 }
 
 // The last clock at which a packet is taken: 2^64 - 65,536.
@@ -34,13 +33,12 @@ fn is_listed(keys: &[u32], key: u32) -> bool
     false
 }
 
-// The entry that a packet makes for a new event. The last clock is 2^64 - 65,536, so that the sum fits.
-fn fresh_entry(clock: u64, fields: Fields) -> Entry
+// What a packet stores. The last clock is 2^64 - 65,536, so that the sum fits.
+fn new_of(clock: u64, fields: Fields) -> New
     requires { ⌜ clock ≤ 18_446_744_073_709_486_080 ⌝ }
-    ensures { λ r. ⌜ r ≡ fresh clock fields ⌝ }
+    ensures { λ r. ⌜ r ≡ newOf clock fields ⌝ }
 {
-    Entry {
-        used: true,
+    New {
         key: fields.key,
         event: fields.event,
         sequence: fields.sequence,
@@ -49,45 +47,30 @@ fn fresh_entry(clock: u64, fields: Fields) -> Entry
     }
 }
 
-// A packet that is refused.
-fn stop(receipt: Receipt) -> Checked
-    ensures { λ r. ⌜ r ≡ stopped receipt ⌝ }
-{
-    Checked {
-        passed: false,
-        receipt,
-        entry: entries::blank_entry(),
-    }
-}
-
 // The checks of a packet's fields.
 fn check_fields(fields: Fields, keys: &[u32], verdict: bool, clock: u64) -> Checked
-    ensures { λ r. ⌜ r ≡ checkedFields (now (keys .entry)) verdict clock fields ⌝ }
+    ensures { λ r. ⌜ checkedAnswer r ≡ checked (now (keys .entry)) verdict clock fields ⌝ }
 {
     if LAST_CLOCK < clock {
-        return stop(Receipt::ClockOutOfRange);
+        return Checked::Refused(Refusal::ClockOutOfRange);
     }
     let listed = is_listed(keys, fields.key);
     if !listed {
-        return stop(Receipt::UnknownKey);
+        return Checked::Refused(Refusal::UnknownKey);
     }
     if !verdict {
-        return stop(Receipt::Unverified);
+        return Checked::Refused(Refusal::Unverified);
     }
-    Checked {
-        passed: true,
-        receipt: Receipt::Accepted,
-        entry: fresh_entry(clock, fields),
-    }
+    Checked::Passed(new_of(clock, fields))
 }
 
 // A packet's own checks, then those of its fields.
 pub fn check(packet: &[u8], keys: &[u32], verdict: bool, clock: u64) -> Checked
-    ensures { λ r. ⌜ r ≡ checked (now (keys .entry)) verdict clock (packetOf (now (packet .entry))) ⌝ }
+    ensures { λ r. ⌜ checkedAnswer r ≡ andThen (packetOf (now (packet .entry))) (checked (now (keys .entry)) verdict clock) ⌝ }
 {
     let read = packet::read_packet(packet);
     match read {
-        Packet::Refused(fault) => stop(Receipt::Refused(fault)),
+        Packet::Refused(fault) => Checked::Refused(Refusal::Packet(fault)),
         Packet::Alert(fields) => check_fields(fields, keys, verdict, clock),
     }
 }

@@ -1,10 +1,10 @@
 // The rules on one entry, by value.
 use crate::Entry;
+use crate::New;
 ghost use mathlib.Core.Path.{_≡_};
 ghost use mathlib.Core.Bool.{cond};
 ghost use lib.Dec.{ltb};
-ghost use Rattle.events.specs.Table.{isOf, isFree, blank, isStale, swept};
-ghost use Rattle.events.specs.Steps.{merged};
+ghost use Rattle.events.specs.Table.{isOf, isFree, blank, renewed, fresh, isStale, swept};
 
 // Whether an entry is a used one of an event.
 pub fn is_of(key: u32, event: u32, entry: Entry) -> bool
@@ -34,8 +34,8 @@ pub fn blank_entry() -> Entry
     }
 }
 
-// Whether a packet's number is above the stored one; `new` is the entry that the packet makes for a new event.
-pub fn is_above(entry: Entry, new: Entry) -> bool
+// Whether a packet's number is above the stored one.
+pub fn is_above(entry: Entry, new: New) -> bool
     ensures { λ r. ⌜ r ≡ ltb (entry .sequence) (new .sequence) ⌝ }
 {
     entry.sequence < new.sequence
@@ -51,9 +51,9 @@ fn later(a: u64, b: u64) -> u64
     a
 }
 
-// An event's entry after a packet that makes the entry `new` for a new event.
-pub fn merge(entry: Entry, new: Entry) -> Entry
-    ensures { λ r. ⌜ r ≡ merged entry new ⌝ }
+// An event's entry after a packet that is accepted.
+pub fn renew(entry: Entry, new: New) -> Entry
+    ensures { λ r. ⌜ r ≡ renewed new entry ⌝ }
 {
     Entry {
         used: entry.used,
@@ -62,6 +62,20 @@ pub fn merge(entry: Entry, new: Entry) -> Entry
         sequence: new.sequence,
         cancelled: new.cancelled,
         keep_until: later(entry.keep_until, new.keep_until),
+    }
+}
+
+// The entry of a new event.
+pub fn fresh_entry(new: New) -> Entry
+    ensures { λ r. ⌜ r ≡ fresh new ⌝ }
+{
+    Entry {
+        used: true,
+        key: new.key,
+        event: new.event,
+        sequence: new.sequence,
+        cancelled: new.cancelled,
+        keep_until: new.keep_until,
     }
 }
 

@@ -1,8 +1,8 @@
 // The event table: which packets are accepted, and what the table then holds.
 use packet::Fault;
 ghost use mathlib.Core.Path.{_≡_};
-ghost use Rattle.events.specs.Table.{positionOf, received, receiptNumber, sweptAll};
-ghost use Rattle.events.specs.Steps.{scanned, accepting, ofOutcome};
+ghost use Rattle.events.specs.Table.{positionOf, tableOutcome, received, refusalNumber, receiptAnswer, answerNumber, sweptAll};
+ghost use Rattle.events.specs.Steps.{scanned};
 
 pub mod checks;
 pub mod entries;
@@ -10,6 +10,7 @@ pub mod plans;
 
 use checks::Checked;
 use plans::Candidates;
+use plans::Plan;
 
 // An entry of the event table, laid out as C lays it out: a caller in C lends such entries.
 #[repr(C)]
@@ -27,15 +28,29 @@ pub struct Table {
     pub entries: [Entry; 64],
 }
 
-// The answer to a packet that was received.
-pub enum Receipt {
-    Accepted,
+// What a packet that passed the checks before the table stores.
+pub struct New {
+    pub key: u32,
+    pub event: u32,
+    pub sequence: u16,
+    pub cancelled: bool,
+    pub keep_until: u64,
+}
+
+// Why a packet is refused: by the checks before the table, by the table, or by itself.
+pub enum Refusal {
     ClockOutOfRange,
     UnknownKey,
     Unverified,
     NotAbove,
     Full,
-    Refused(Fault),
+    Packet(Fault),
+}
+
+// The answer to a packet that was received.
+pub enum Receipt {
+    Accepted,
+    Refused(Refusal),
 }
 
 // The answer, and the table afterwards.
@@ -60,10 +75,16 @@ pub fn find(table: Table, key: u32, event: u32) -> Position
 
 // A packet is received. `verdict` is the signature chip's, `keys` are the key ids that are listened to.
 pub fn receive(table: Table, packet: &[u8], keys: &[u32], verdict: bool, clock: u64) -> Received
-    ensures { λ r. ⌜ r ≡ ofOutcome (received (table .entries) (now (packet .entry)) (now (keys .entry)) verdict clock) ⌝ }
+    ensures { λ r. ⌜ (receiptAnswer (r .receipt) ≡ received (table .entries) (now (packet .entry)) (now (keys .entry)) verdict clock .answer) × (r .table .entries ≡ received (table .entries) (now (packet .entry)) (now (keys .entry)) verdict clock .entries) ⌝ }
 {
     let checked = checks::check(packet, keys, verdict, clock);
-    accept(table, checked)
+    match checked {
+        Checked::Passed(new) => accept(table, new),
+        Checked::Refused(refusal) => Received {
+            receipt: Receipt::Refused(refusal),
+            table,
+        },
+    }
 }
 
 // Frees the used entries whose keep-until is below a time.
@@ -94,38 +115,48 @@ fn scan(table: Table, key: u32, event: u32) -> Candidates
     found
 }
 
-// A packet after the checks before the table.
-fn accept(table: Table, checked: Checked) -> Received
-    ensures { λ r. ⌜ r ≡ ofOutcome (accepting checked (table .entries)) ⌝ }
+// A packet that passed the checks before the table is accepted or refused.
+fn accept(table: Table, new: New) -> Received
+    ensures { λ r. ⌜ (receiptAnswer (r .receipt) ≡ tableOutcome new (table .entries) .answer) × (r .table .entries ≡ tableOutcome new (table .entries) .entries) ⌝ }
 {
-    let new = checked.entry;
     let found = scan(table, new.key, new.event);
-    let plan = plans::decide(found, 64, checked);
-    let receipt = plan.receipt;
-    let at = plan.at;
-    let entry = plan.entry;
-    if at < 64 {
-        let mut next = table;
-        next.entries[at] = entry;
-        return Received {
-            receipt,
-            table: next,
-        };
+    let plan = plans::decide(found, 64, new);
+    match plan {
+        Plan::Store(at, entry) => {
+            let mut next = table;
+            next.entries[at] = entry;
+            Received {
+                receipt: Receipt::Accepted,
+                table: next,
+            }
+        }
+        Plan::Refused(refusal) => Received {
+            receipt: Receipt::Refused(refusal),
+            table,
+        },
     }
-    Received { receipt, table }
 }
 
-// Document 01's number for an answer, 0 for acceptance; a refusal's offset is 0.
+// Document 01's number for a refusal; its offset is 0.
+pub fn refusal_number(refusal: Refusal) -> u8
+    ensures { λ r. ⌜ r ≡ refusalNumber refusal ⌝ }
+{
+    match refusal {
+        Refusal::ClockOutOfRange => 12,
+        Refusal::UnknownKey => 8,
+        Refusal::Unverified => 9,
+        Refusal::NotAbove => 10,
+        Refusal::Full => 11,
+        Refusal::Packet(fault) => packet::fault_number(fault),
+    }
+}
+
+// The number of an answer, 0 for acceptance.
 pub fn receipt_number(receipt: Receipt) -> u8
-    ensures { λ r. ⌜ r ≡ receiptNumber receipt ⌝ }
+    ensures { λ r. ⌜ r ≡ answerNumber (receiptAnswer receipt) ⌝ }
 {
     match receipt {
         Receipt::Accepted => 0,
-        Receipt::ClockOutOfRange => 12,
-        Receipt::UnknownKey => 8,
-        Receipt::Unverified => 9,
-        Receipt::NotAbove => 10,
-        Receipt::Full => 11,
-        Receipt::Refused(fault) => packet::fault_number(fault),
+        Receipt::Refused(refusal) => refusal_number(refusal),
     }
 }

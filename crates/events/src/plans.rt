@@ -1,12 +1,12 @@
 // What one pass over the entries finds, and what is then stored.
 use crate::Entry;
+use crate::New;
 use crate::Position;
-use crate::Receipt;
-use crate::checks::Checked;
+use crate::Refusal;
 use crate::entries;
 ghost use mathlib.Core.Path.{_≡_};
 ghost use mathlib.Core.List.{[]};
-ghost use Rattle.events.specs.Steps.{scanned, nextIndex, nextEntry, scanStep, positionIn, refusing, planned, decided};
+ghost use Rattle.events.specs.Steps.{scanned, nextIndex, nextEntry, scanStep, positionIn, decided};
 
 // An event's first used entry and its index, and the lowest free index. An index is the number of entries where there is none.
 pub struct Candidates {
@@ -15,11 +15,10 @@ pub struct Candidates {
     pub entry: Entry,
 }
 
-// What a packet comes to: the answer, and an entry with its index. An index past the entries stores nothing.
-pub struct Plan {
-    pub receipt: Receipt,
-    pub at: usize,
-    pub entry: Entry,
+// What a packet comes to: an entry to store at an index, or why it is refused.
+pub enum Plan {
+    Store(usize, Entry),
+    Refused(Refusal),
 }
 
 // What is found among no entries.
@@ -89,53 +88,21 @@ pub fn position(found: Candidates, n: usize) -> Position
     Position::Nowhere
 }
 
-// A refusal among n entries.
-fn refusal(n: usize, receipt: Receipt) -> Plan
-    ensures { λ r. ⌜ r ≡ refusing n receipt ⌝ }
-{
-    Plan {
-        receipt,
-        at: n,
-        entry: entries::blank_entry(),
-    }
-}
-
-// What a packet that passed the checks comes to among n entries; `new` is the entry that it makes for a new event.
-fn plan_passed(found: Candidates, n: usize, new: Entry) -> Plan
-    ensures { λ r. ⌜ r ≡ planned found n new ⌝ }
+// What a packet that passed the checks comes to among n entries.
+pub fn decide(found: Candidates, n: usize, new: New) -> Plan
+    ensures { λ r. ⌜ r ≡ decided found n new ⌝ }
 {
     let old = found.entry;
     let known = found.known;
     let free = found.free;
     if known < n {
         if entries::is_above(old, new) {
-            let entry = entries::merge(old, new);
-            return Plan {
-                receipt: Receipt::Accepted,
-                at: known,
-                entry,
-            };
+            return Plan::Store(known, entries::renew(old, new));
         }
-        return refusal(n, Receipt::NotAbove);
+        return Plan::Refused(Refusal::NotAbove);
     }
     if free < n {
-        return Plan {
-            receipt: Receipt::Accepted,
-            at: free,
-            entry: new,
-        };
+        return Plan::Store(free, entries::fresh_entry(new));
     }
-    refusal(n, Receipt::Full)
-}
-
-// What a packet comes to among n entries.
-pub fn decide(found: Candidates, n: usize, checked: Checked) -> Plan
-    ensures { λ r. ⌜ r ≡ decided found n checked ⌝ }
-{
-    let receipt = checked.receipt;
-    let new = checked.entry;
-    if checked.passed {
-        return plan_passed(found, n, new);
-    }
-    refusal(n, receipt)
+    Plan::Refused(Refusal::Full)
 }

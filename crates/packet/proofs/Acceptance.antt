@@ -10,15 +10,15 @@ use lib.ListN.{length, take}
 use mir.Syntax.{w32}
 use mir.Val.{Fits}
 use Rattle.text.specs.Ascii.{ascii}
-use Rattle.text.specs.Logic.{eql, and-right, clash}
+use Rattle.text.specs.Logic.{eql, and-right, cond-cases, clash}
+use Rattle.text.specs.Answers.{Answer, gives, refuses}
 use Rattle.words.specs.Duration.{isLasting}
 use Rattle.coordinates.specs.Place.{inRange}
 use Rattle.packet.specs.declared.Fields.{Fields}
-use Rattle.packet.specs.declared.Fault.{Fault}
 use Rattle.packet.specs.declared.Packet.{Packet}
-use Rattle.packet.specs.declared.Packet.the-variants.{Alert, Refused}
+use Rattle.packet.specs.declared.Packet.the-variants.{Alert}
 use Rattle.packet.specs.BigEndian.{numberOf}
-use Rattle.packet.specs.Packet.{flag, fieldsOf, epicentre, lastingOf, packetOf}
+use Rattle.packet.specs.Packet.{flag, fieldsOf, epicentre, lastingOf, packetOf, packetAnswer}
 
 pub record Accepted (p : List ℕ) (f : Fields) : Type 0 where
   pub warn : eql (take 4 p) (ascii "WARN") ≡ true
@@ -31,14 +31,14 @@ pub record Accepted (p : List ℕ) (f : Fields) : Type 0 where
   pub lasts : isLasting (lastingOf f) ≡ true
 
 -- a test that an accepted packet has passed
-past : (e : Fault) (y : Packet) (f : Fields) (t : Bool) → cond t (Refused e) y ≡ Alert f → (t ≡ false) × (y ≡ Alert f)
-past e y f true q = clash (cc)
-past e y f false q = (refl, q)
+past : (n : ℕ) (y : Answer Fields) (f : Fields) (t : Bool) → cond t (refuses n 0) y ≡ gives f → (t ≡ false) × (y ≡ gives f)
+past n y f true q = clash (cc)
+past n y f false q = (refl, q)
 
-same : (f g : Fields) → Alert f ≡ Alert g → g ≡ f
+same : (f g : Fields) → gives f ≡ gives g → g ≡ f
 same f g e = cc
 
-pub accepted : (p : List ℕ) (f : Fields) → packetOf p ≡ Alert f → Accepted p f
+pub accepted : (p : List ℕ) (f : Fields) → packetOf p ≡ gives f → Accepted p f
 unfolding packetOf
 accepted p f e₀ =
     let e₁ = past _ _ f (ltb (length p) 8) e₀ in
@@ -62,7 +62,7 @@ accepted p f e₀ =
     }
 
 -- and a packet of which all this holds is accepted
-pub accepts : (p : List ℕ) (f : Fields) → Accepted p f → packetOf p ≡ Alert f
+pub accepts : (p : List ℕ) (f : Fields) → Accepted p f → packetOf p ≡ gives f
 unfolding packetOf
 accepts p f a =
     rw (
@@ -77,11 +77,36 @@ accepts p f a =
       a .lasts,
     )
 
+-- ---- refusals: "for packets 1 to 7", at 0
+
+abbrev Refusal : Answer Fields → Type 0
+Refusal a = (n at : ℕ) → a ≡ refuses n at → (1 ≤ n) × (n ≤ 7) × (at ≡ 0)
+
+module _ (k : ℕ) (low : 1 ≤ k) (high : k ≤ 7) where
+  numbered : Refusal (refuses k 0)
+  numbered n at e = let f : k ≡ n = cc in let g : 0 ≡ at = cc in (rw (← f) low, rw (← f) high, sym g)
+
+  first : (y : Answer Fields) (t : Bool) → Refusal y → Refusal (cond t (refuses k 0) y)
+  first y t h = cond-cases Refusal t (refuses k 0) y (λ _. numbered) (λ _. h)
+
+pub refusal-numbers : (p : List ℕ) → Refusal (packetOf p)
+unfolding packetOf
+refusal-numbers p =
+    first 1 (omega arith) (omega arith) _ (ltb (length p) 8)
+    (first 2 (omega arith) (omega arith) _ (not (eql (take 4 p) (ascii "WARN")))
+    (first 3 (omega arith) (omega arith) _ (not (eqb (numberOf 1 0x04 p) 1))
+    (first 4 (omega arith) (omega arith) _ (not (flag 0 p))
+    (first 1 (omega arith) (omega arith) _ (ltb (length p) 132)
+    (first 5 (omega arith) (omega arith) _ (ltb 1_200 (length p))
+    (first 6 (omega arith) (omega arith) _ (not (inRange (epicentre (fieldsOf p))))
+    (first 7 (omega arith) (omega arith) _ (not (isLasting (lastingOf (fieldsOf p))))
+    (λ n at e. clash (cc)))))))))
+
 -- ---- the lasting time
 
 -- of the packet o that was read
-pub lasts-read : (p : List ℕ) (o : Packet) → o ≡ packetOf p → (f : Fields) → o ≡ Alert f → isLasting (lastingOf f) ≡ true
-lasts-read p o e f g = accepted p f (sym e ∙ g) .lasts
+pub lasts-read : (p : List ℕ) (o : Packet) → packetAnswer o ≡ packetOf p → (f : Fields) → o ≡ Alert f → isLasting (lastingOf f) ≡ true
+lasts-read p o e f g = accepted p f (sym e ∙ ap packetAnswer g) .lasts
 
 -- it fits 32 bits
 pub lasting-fits : (s r : ℕ) → isLasting s ≡ true → r ≡ s → Fits w32 r

@@ -3,3 +3,4 @@ pub mod Signs
 pub mod Parts
 pub mod Acceptance
 pub mod Widths
+pub mod Sides

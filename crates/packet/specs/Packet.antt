@@ -1,5 +1,5 @@
 -- The packet (document 01, "The packet" and "Refusal numbers").
-use mathlib.Core.Bool.{Bool, cond, not}
+use mathlib.Core.Bool.{Bool, true, false, cond, not}
 use mathlib.Core.List.{List}
 use Prim.Native.Nat.{ℕ, _-_, _*_, _/_, _%_, _^_}
 use lib.Dec.{eqb, ltb}
@@ -9,10 +9,9 @@ use mir.Syntax.{w32}
 use mir.Val.{toZ}
 use Rattle.text.specs.Ascii.{ascii}
 use Rattle.text.specs.Logic.{eql}
+use Rattle.text.specs.Answers.{Answer, gives, refuses, andThen, giving}
 use Rattle.words.specs.Duration.{isLasting}
 use Rattle.coordinates.specs.declared.Place.{Place}
-use Rattle.coordinates.specs.declared.Inclusion.{Inclusion}
-use Rattle.coordinates.specs.declared.Inclusion.the-variants as inclusion
 use Rattle.coordinates.specs.Place.{inRange}
 use Rattle.circle.specs.Circle.{aroundHolds}
 use Rattle.sheet.specs.declared.WarnFacts.{WarnFacts}
@@ -77,31 +76,30 @@ epicentre f = record { lat = f .lat; lon = f .lon }
 abbrev pub lastingOf : Fields → ℕ
 lastingOf f = f .expiry - f .timestamp
 
--- ---- "WARN order: 1 (8 bytes), 2, 3, 4, 1 (132), 5, 6, 7"
+-- ---- "WARN order: 1 (8 bytes), 2, 3, 4, 1 (132), 5, 6, 7"; a refusal's place is 0
 
 -- from 6 on, by the fields
-abbrev pub acceptedOf : Fields → Packet
+abbrev pub acceptedOf : Fields → Answer Fields
 acceptedOf f =
-    cond (not (inRange (epicentre f))) (packet.Refused fault.Range)
-    (cond (not (isLasting (lastingOf f))) (packet.Refused fault.Lasting)
-    (packet.Alert f))
+    cond (not (inRange (epicentre f))) (refuses 6 0)
+    (cond (not (isLasting (lastingOf f))) (refuses 7 0)
+    (gives f))
 
 -- from the second 1 on, by the length of an ALERT
-abbrev pub alertOf : List ℕ → Packet
+abbrev pub alertOf : List ℕ → Answer Fields
 alertOf p =
-    cond (ltb (length p) 132) (packet.Refused fault.Short)
-    (cond (ltb 1_200 (length p)) (packet.Refused fault.Long)
+    cond (ltb (length p) 132) (refuses 1 0)
+    (cond (ltb 1_200 (length p)) (refuses 5 0)
     (acceptedOf (fieldsOf p)))
 
-unfoldable pub packetOf : List ℕ → Packet
+unfoldable pub packetOf : List ℕ → Answer Fields
 packetOf p =
-    cond (ltb (length p) 8) (packet.Refused fault.Short)
-    (cond (not (eql (take 4 p) (ascii "WARN"))) (packet.Refused fault.NotWarn)
-    (cond (not (eqb (numberOf 1 0x04 p) 1)) (packet.Refused fault.Version)
-    (cond (not (flag 0 p)) (packet.Refused fault.NotAlert)
+    cond (ltb (length p) 8) (refuses 1 0)
+    (cond (not (eql (take 4 p) (ascii "WARN"))) (refuses 2 0)
+    (cond (not (eqb (numberOf 1 0x04 p) 1)) (refuses 3 0)
+    (cond (not (flag 0 p)) (refuses 4 0)
     (alertOf p))))
 
--- document 01's number for each fault; its offset is 0
 abbrev pub faultNumber : Fault → ℕ
 faultNumber fault.Short = 1
 faultNumber fault.NotWarn = 2
@@ -110,6 +108,10 @@ faultNumber fault.NotAlert = 4
 faultNumber fault.Long = 5
 faultNumber fault.Range = 6
 faultNumber fault.Lasting = 7
+
+abbrev pub packetAnswer : Packet → Answer Fields
+packetAnswer (packet.Alert f) = gives f
+packetAnswer (packet.Refused e) = refuses (faultNumber e) 0
 
 -- ---- the sheet: "number being the packet's sequence, origin its key id, hazard and kind its hazard major and minor"
 
@@ -131,30 +133,23 @@ sheetOfFields f = record {
   response = f .response;
 }
 
-abbrev pub drawnFrom : Packet → PacketSheet
-drawnFrom (packet.Alert f) = drawn.Sheet (sheetOfFields f)
-drawnFrom (packet.Refused e) = drawn.Refused e
+unfoldable pub packetSheet : List ℕ → Answer WarnFacts
+packetSheet p = giving sheetOfFields (packetOf p)
 
-unfoldable pub packetSheet : List ℕ → PacketSheet
-packetSheet p = drawnFrom (packetOf p)
+abbrev pub sheetAnswer : PacketSheet → Answer WarnFacts
+sheetAnswer (drawn.Sheet w) = gives w
+sheetAnswer (drawn.Refused e) = refuses (faultNumber e) 0
 
 -- ---- the place: "A packet's shape is the circle of its epicentre and radius", the radius in 10 m; the packet's own refusals, then 6 for the place
 
-abbrev pub side : Inclusion → PacketPlace
-side inclusion.Inside = placed.Inside
-side inclusion.Outside = placed.Outside
-side inclusion.Fault = placed.Outside
+abbrev pub placedIn : Fields → Place → Answer Bool
+placedIn f place = cond (inRange place) (aroundHolds (epicentre f) (10 * f .radius) place) (refuses 6 0)
 
-abbrev pub placedIn : Packet → Place → PacketPlace
-placedIn (packet.Alert f) p = cond (inRange p) (side (aroundHolds (epicentre f) (10 * f .radius) p)) placed.OutOfRange
-placedIn (packet.Refused e) p = placed.Refused e
+unfoldable pub packetPlace : List ℕ → Place → Answer Bool
+packetPlace p place = andThen (packetOf p) (λ (f : Fields). placedIn f place)
 
-unfoldable pub packetPlace : List ℕ → Place → PacketPlace
-packetPlace p place = placedIn (packetOf p) place
-
--- document 01's number for each refusal of a place, 0 for an answer; its offset is 0
-abbrev pub placeNumber : PacketPlace → ℕ
-placeNumber placed.Inside = 0
-placeNumber placed.Outside = 0
-placeNumber placed.OutOfRange = 6
-placeNumber (placed.Refused e) = faultNumber e
+abbrev pub placeAnswer : PacketPlace → Answer Bool
+placeAnswer placed.Inside = gives true
+placeAnswer placed.Outside = gives false
+placeAnswer placed.OutOfRange = refuses 6 0
+placeAnswer (placed.Refused e) = refuses (faultNumber e) 0

@@ -10,7 +10,7 @@ ghost use Prim.Native.Nat.{_-_};
 ghost use lib.ListN.{take};
 ghost use Rattle.text.specs.Ascii.{ascii};
 ghost use Rattle.text.specs.Logic.{eql};
-ghost use Rattle.packet.specs.Packet.{acceptedOf, alertOf};
+ghost use Rattle.packet.specs.Packet.{acceptedOf, alertOf, packetAnswer};
 
 // Whether a packet starts with "WARN".
 pub fn is_warn(p: &[u8]) -> bool
@@ -31,7 +31,7 @@ pub fn lasting(expiry: u64, timestamp: u64) -> u64
 
 // The last tests of a packet, on its fields.
 fn accepted(f: Fields) -> Packet
-    ensures { λ r. ⌜ r ≡ acceptedOf f ⌝ }
+    ensures { λ r. ⌜ packetAnswer r ≡ acceptedOf f ⌝ }
 {
     if !coordinates::in_range(epicentre(f)) {
         return Packet::Refused(Fault::Range);
@@ -44,7 +44,7 @@ fn accepted(f: Fields) -> Packet
 
 // The tests of an ALERT from its length on.
 pub fn read_alert(p: &[u8]) -> Packet
-    ensures { λ r. ⌜ r ≡ alertOf (now (p .entry)) ⌝ }
+    ensures { λ r. ⌜ packetAnswer r ≡ alertOf (now (p .entry)) ⌝ }
 {
     if p.len() < 132 {
         return Packet::Refused(Fault::Short);

@@ -4,7 +4,7 @@ use sheet::WarnFacts;
 ghost use mathlib.Core.Path.{_≡_};
 ghost use mathlib.Core.Bool.{true};
 ghost use Rattle.words.specs.Duration.{isLasting};
-ghost use Rattle.packet.specs.Packet.{faultNumber, tlvOf, signatureOf, lastingOf, packetOf, sheetOfFields, packetSheet, packetPlace};
+ghost use Rattle.packet.specs.Packet.{tlvOf, signatureOf, lastingOf, packetOf, faultNumber, packetAnswer, sheetOfFields, packetSheet, sheetAnswer, packetPlace, placeAnswer};
 
 mod bytes;
 mod checks;
@@ -91,7 +91,7 @@ pub fn signature(p: &[u8]) -> &[u8]
 
 // The fields of an ALERT packet, or why it is refused.
 pub fn read_packet(p: &[u8]) -> Packet
-    ensures { λ r. ⌜ r ≡ packetOf (now (p .entry)) ⌝ }
+    ensures { λ r. ⌜ packetAnswer r ≡ packetOf (now (p .entry)) ⌝ }
 {
     if p.len() < 8 {
         return Packet::Refused(Fault::Short);
@@ -133,7 +133,7 @@ fn sheet_of(f: Fields) -> WarnFacts
 
 // The sheet of a packet, or why the packet is refused.
 pub fn packet_sheet(p: &[u8]) -> PacketSheet
-    ensures { λ r. ⌜ r ≡ packetSheet (now (p .entry)) ⌝ }
+    ensures { λ r. ⌜ sheetAnswer r ≡ packetSheet (now (p .entry)) ⌝ }
 {
     let read = read_packet(p);
     match read {
@@ -144,7 +144,7 @@ pub fn packet_sheet(p: &[u8]) -> PacketSheet
 
 // Whether a packet's circle holds a place; or why the packet, and then the place, is refused.
 pub fn packet_place(p: &[u8], place: Place) -> PacketPlace
-    ensures { λ r. ⌜ r ≡ packetPlace (now (p .entry)) place ⌝ }
+    ensures { λ r. ⌜ placeAnswer r ≡ packetPlace (now (p .entry)) place ⌝ }
 {
     let read = read_packet(p);
     match read {
@@ -153,7 +153,7 @@ pub fn packet_place(p: &[u8], place: Place) -> PacketPlace
     }
 }
 
-// Document 01's number for a fault; its offset is 0.
+// Document 01's number for a fault.
 pub fn fault_number(fault: Fault) -> u8
     ensures { λ r. ⌜ r ≡ faultNumber fault ⌝ }
 {

@@ -1,12 +1,11 @@
 // A packet's shape: the circle of its epicentre and radius.
 use super::Fields;
-use super::Packet;
 use super::PacketPlace;
 use coordinates::Inclusion;
 use coordinates::Place;
 ghost use mathlib.Core.Path.{_≡_};
-ghost use Prim.Native.Nat.{_*_};
-ghost use Rattle.packet.specs.Packet.{epicentre, side, placedIn};
+ghost use Prim.Native.Nat.{_*_, _≤_};
+ghost use Rattle.packet.specs.Packet.{epicentre, placedIn, placeAnswer};
 
 pub fn epicentre(f: Fields) -> Place
     ensures { λ r. ⌜ r ≡ epicentre f ⌝ }
@@ -17,30 +16,24 @@ pub fn epicentre(f: Fields) -> Place
     }
 }
 
-// A radius in units of 10 m, in metres.
+// A radius in units of 10 m, in metres: its width keeps it below 20,000 km.
 fn metres(radius: u16) -> u32
-    ensures { λ r. ⌜ r ≡ 10 * radius ⌝ }
+    ensures { λ r. ⌜ (r ≡ 10 * radius) × (r ≤ 20_000_000) ⌝ }
 {
     10 * (radius as u32)
 }
 
-// The answer for a side of the circle. A packet's radius always makes one.
-fn side_of(i: Inclusion) -> PacketPlace
-    ensures { λ r. ⌜ r ≡ side i ⌝ }
-{
-    match i {
-        Inclusion::Inside => PacketPlace::Inside,
-        Inclusion::Outside => PacketPlace::Outside,
-        Inclusion::Fault => PacketPlace::Outside,
-    }
-}
-
 // Whether the circle of a packet's fields holds a place.
 pub fn place_in(f: Fields, place: Place) -> PacketPlace
-    ensures { λ r. ⌜ r ≡ placedIn (Packet.Alert f) place ⌝ }
+    ensures { λ r. ⌜ placeAnswer r ≡ placedIn f place ⌝ }
 {
     if !coordinates::in_range(place) {
         return PacketPlace::OutOfRange;
     }
-    side_of(circle::around_holds(epicentre(f), metres(f.radius), place))
+    let side = circle::around_holds(epicentre(f), metres(f.radius), place);
+    match side {
+        Inclusion::Inside => PacketPlace::Inside,
+        Inclusion::Outside => PacketPlace::Outside,
+        Inclusion::Fault => PacketPlace::OutOfRange, // it never is: a packet's radius always makes a circle
+    }
 }

@@ -1,16 +1,15 @@
 -- What the functions for C give back: a refusal's number, 0 for none; and with it a value, which is a
 -- refusal's offset or else what the function tells.
 -- Numbers and offsets are those that each answer's own definition gives.
+use mathlib.Core.Bool.{Bool, true, false}
 use Prim.Native.Nat.{ℕ}
+use Rattle.text.specs.Answers as text
 use Rattle.sheet.specs.declared.WriteSheet.{WriteSheet}
 use Rattle.sheet.specs.declared.WriteSheet.the-variants as write
 use Rattle.sheet.specs.declared.ReadBack.{ReadBack}
 use Rattle.sheet.specs.declared.ReadBack.the-variants as read
 use Rattle.sheet.specs.Answers.{Outcome, done, writeOutcome, readOutcome}
 use Rattle.sheet.specs.Answers as sheet
-use Rattle.packet.specs.declared.PacketPlace.{PacketPlace}
-use Rattle.packet.specs.declared.PacketPlace.the-variants as packet
-use Rattle.packet.specs.Packet.{placeNumber}
 use Rattle.document.specs.declared.Check.{Check}
 use Rattle.document.specs.declared.Check.the-variants as check
 use Rattle.parts.specs.declared.CapPlace.{CapPlace}
@@ -25,6 +24,11 @@ success v = record { number = 0; value = v }
 
 abbrev pub refused : (number offset : ℕ) → Answer
 refused n p = record { number = n; value = p }
+
+-- an answer of the papers: the value that stands for what is given, or the refusal
+abbrev pub numbered : {A : Type 0} → (A → ℕ) → text.Answer A → Answer
+numbered value (text.gives x) = success (value x)
+numbered value (text.refuses n at) = refused n at
 
 -- the value v where all went well, or else the refusal
 abbrev pub answerOf : Outcome → ℕ → Answer
@@ -57,15 +61,10 @@ capPlaceValue (cap.Refused n p) = refusalOffset (cap.Refused n p)
 abbrev pub capPlaceAnswer : CapPlace → Answer
 capPlaceAnswer x = record { number = parts.placeNumber x; value = capPlaceValue x }
 
--- 0 outside, 1 inside; every refusal's offset is 0
-abbrev pub packetPlaceValue : PacketPlace → ℕ
-packetPlaceValue packet.Outside = 0
-packetPlaceValue packet.Inside = 1
-packetPlaceValue packet.OutOfRange = 0
-packetPlaceValue (packet.Refused fault) = 0
-
-abbrev pub packetPlaceAnswer : PacketPlace → Answer
-packetPlaceAnswer x = record { number = placeNumber x; value = packetPlaceValue x }
+-- 0 outside, 1 inside
+abbrev pub sideValue : Bool → ℕ
+sideValue false = 0
+sideValue true = 1
 
 -- the number of read-backs
 abbrev pub countOf : ReadBack → ℕ

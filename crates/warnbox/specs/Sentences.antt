@@ -4,7 +4,9 @@ use mathlib.Core.List.{List}
 use Prim.Native.Nat.{ℕ, _+_}
 use lib.Dec.{leb}
 use lib.ListN.{length}
+use Rattle.text.specs.Answers as text
 use Rattle.sheet.specs.declared.Span.{Span}
+use Rattle.sheet.specs.declared.WarnFacts.{WarnFacts}
 use Rattle.sheet.specs.declared.Found.{Found}
 use Rattle.sheet.specs.declared.Found.the-variants as found
 use Rattle.sheet.specs.declared.ReadBack.{ReadBack}
@@ -15,9 +17,6 @@ use Rattle.sheet.specs.Answers.{writeSheet, after}
 use Rattle.numbers.specs.declared.NumbersSheet.{NumbersSheet}
 use Rattle.numbers.specs.declared.NumbersSheet.the-variants as given
 use Rattle.numbers.specs.Numbers.{numbersOf}
-use Rattle.packet.specs.declared.PacketSheet.{PacketSheet}
-use Rattle.packet.specs.declared.PacketSheet.the-variants as packet
-use Rattle.packet.specs.Packet.{faultNumber}
 use Rattle.parts.specs.declared.CapSheet.{CapSheet}
 use Rattle.parts.specs.declared.CapSheet.the-variants as drawn
 use Rattle.parts.specs.Sheets.{sheetNumber, sheetOffset}
@@ -40,13 +39,13 @@ partAfter d start l (drawn.Refused n p) = d
 
 -- ---- the sentence of a packet
 
-abbrev pub packetSentence : List ℕ → ℕ → PacketSheet → Answer
-packetSentence d start (packet.Sheet w) = writeAnswer (writeSheet d start (warn w))
-packetSentence d start (packet.Refused fault) = refused (faultNumber fault) 0
+abbrev pub packetSentence : List ℕ → ℕ → text.Answer WarnFacts → Answer
+packetSentence d start (text.gives w) = writeAnswer (writeSheet d start (warn w))
+packetSentence d start (text.refuses n at) = refused n at
 
-abbrev pub packetAfter : List ℕ → ℕ → PacketSheet → List ℕ
-packetAfter d start (packet.Sheet w) = after d start (warn w)
-packetAfter d start (packet.Refused fault) = d
+abbrev pub packetAfter : List ℕ → ℕ → text.Answer WarnFacts → List ℕ
+packetAfter d start (text.gives w) = after d start (warn w)
+packetAfter d start (text.refuses n at) = d
 
 -- ---- the sentence of a sheet that is handed in as numbers, with the text t that holds its sender and name. Numbers that stand for
 -- no sheet are "a fact out of range", 23, as are a sender and a name that aren't there

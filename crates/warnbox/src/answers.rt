@@ -6,7 +6,8 @@ use parts::CapPlace;
 use sheet::ReadBack;
 use sheet::WriteSheet;
 ghost use mathlib.Core.Path.{_≡_};
-ghost use Rattle.warnbox.specs.Answers.{refused, checkAnswer, writeAnswer, capPlaceAnswer, packetPlaceAnswer, readAnswer};
+ghost use Rattle.warnbox.specs.Answers.{refused, numbered, checkAnswer, writeAnswer, capPlaceAnswer, sideValue, readAnswer};
+ghost use Rattle.packet.specs.Packet.{placeAnswer};
 
 pub fn refused(number: u8, offset: usize) -> Answer
     ensures { λ r. ⌜ r ≡ refused number offset ⌝ }
@@ -83,7 +84,7 @@ pub fn cap_place_answer(answer: CapPlace) -> Answer
 }
 
 pub fn packet_place_answer(answer: PacketPlace) -> Answer
-    ensures { λ r. ⌜ r ≡ packetPlaceAnswer answer ⌝ }
+    ensures { λ r. ⌜ r ≡ numbered sideValue (placeAnswer answer) ⌝ }
 {
     match answer {
         PacketPlace::Inside => Answer {

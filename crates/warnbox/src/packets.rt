@@ -6,13 +6,13 @@ use crate::writing::write_warn_sentence;
 use coordinates::Place;
 use packet::PacketSheet;
 ghost use mathlib.Core.Path.{_≡_};
-ghost use Rattle.packet.specs.Packet.{packetSheet, packetPlace};
-ghost use Rattle.warnbox.specs.Answers.{packetPlaceAnswer};
+ghost use Rattle.packet.specs.Packet.{packetSheet, sheetAnswer, packetPlace};
+ghost use Rattle.warnbox.specs.Answers.{numbered, sideValue};
 ghost use Rattle.warnbox.specs.Sentences.{packetSentence, packetAfter};
 
 // Writes the sentence of a sheet that was drawn from a packet.
 fn write_drawn(buffer: &mut [u8], start: usize, drawn: PacketSheet) -> Answer
-    ensures { λ r. ⌜ (r ≡ packetSentence (now (buffer .entry)) start drawn) × (now (buffer .exit) ≡ packetAfter (now (buffer .entry)) start drawn) ⌝ }
+    ensures { λ r. ⌜ (r ≡ packetSentence (now (buffer .entry)) start (sheetAnswer drawn)) × (now (buffer .exit) ≡ packetAfter (now (buffer .entry)) start (sheetAnswer drawn)) ⌝ }
 {
     match drawn {
         PacketSheet::Sheet(facts) => write_warn_sentence(buffer, start, facts),
@@ -41,8 +41,8 @@ pub extern "C" fn warnbox_packet_sentence(
 // Whether a place is inside a packet's circle; the value is 0 for outside, 1 for inside.
 #[no_mangle]
 pub extern "C" fn warnbox_packet_place(packet: &[u8], lat: i32, lon: i32, value: &mut u64) -> u8
-    ensures { λ r. ⌜ (r ≡ packetPlaceAnswer (packetPlace (now (packet .entry)) (record { lat = lat; lon = lon })) .number)
-        × (now (value .exit) ≡ packetPlaceAnswer (packetPlace (now (packet .entry)) (record { lat = lat; lon = lon })) .value) ⌝ }
+    ensures { λ r. ⌜ (r ≡ numbered sideValue (packetPlace (now (packet .entry)) (record { lat = lat; lon = lon })) .number)
+        × (now (value .exit) ≡ numbered sideValue (packetPlace (now (packet .entry)) (record { lat = lat; lon = lon })) .value) ⌝ }
 {
     let answer = packet_place_answer(packet::packet_place(packet, Place { lat, lon }));
     *value = answer.value;

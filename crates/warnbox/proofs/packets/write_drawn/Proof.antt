@@ -2,6 +2,7 @@
 use borrow.Author.Needs.{needs}
 use mathlib.Core.Path.{sym, ap, _∙_}
 use Prim.Native.Nat.{ℕ}
+use Rattle.packet.specs.Packet.{sheetAnswer}
 use Rattle.warnbox.specs.Answers.{refused}
 use Rattle.warnbox.specs.Sentences.{packetSentence, packetAfter}
 use Rattle.warnbox.proofs.packets.write_drawn.Statement.{statement}
@@ -13,8 +14,8 @@ returns c = rw (c .before .before .before .before .before .drawn .given .1) (c .
 returns-2 : tie.Need-returns-2
 returns-2 c = (
   c .refused .ensures ∙ ap (λ (n : ℕ). refused n 0) (c .before .fault-number .ensures) ∙ ap (packetSentence _ _)
-      (sym (c .before .before .before .drawn2 .given .1)),
-  ap (packetAfter _ _) (sym (c .before .before .before .drawn2 .given .1)),
+      (ap sheetAnswer (sym (c .before .before .before .drawn2 .given .1))),
+  ap (packetAfter _ _) (ap sheetAnswer (sym (c .before .before .before .drawn2 .given .1))),
 )
 
 pub write-drawn-spec : {M : Type 1} → statement M
