@@ -3,8 +3,8 @@ use mathlib.Core.Path.{_≡_, refl, subst}
 use mathlib.Core.List.{List, [], _∷_, _++_}
 use Prim.Native.Nat.{ℕ, zero, suc, _≤_}
 use native.Mathlib.Omega.{arith}
-use lib.Dec.{T}
 use lib.ListN.{length}
+use types.Run.{OneOf, hit}
 use Rattle.text.specs.Answers.{Answer, gives, refuses}
 use Rattle.document.specs.declared.Mode.{Mode}
 use Rattle.document.specs.declared.Event.{Event}
@@ -14,7 +14,7 @@ use Rattle.document.specs.declared.Step.the-variants.{Next, Done, Refuse
 use Rattle.document.specs.Elements.{Element, given}
 use Rattle.document.specs.Constructs.{stepOf}
 use Rattle.document.specs.Documents.{elementsOf, begin, firstStep, after, run, readFrom, documentOf}
-use Rattle.document.proofs.Numbers.{isNumber}
+use Rattle.document.proofs.Numbers.{documentNumbers}
 use Rattle.document.proofs.Events.{Refusal, refusal}
 use Rattle.document.proofs.Runs.{first-holds}
 
@@ -71,8 +71,8 @@ pub offset-within : (l : List ℕ) (n p : ℕ) → documentOf l ≡ refuses n p 
 offset-within l n p d = document-refusal l n p d .0
 
 -- its number is one of 14 to 19 and 22
-pub refusal-numbers : (l : List ℕ) (n p : ℕ) → documentOf l ≡ refuses n p → T (isNumber n)
-refusal-numbers l n p d = document-refusal l n p d .1
+pub refusal-numbers : (l : List ℕ) (n p : ℕ) → documentOf l ≡ refuses n p → OneOf documentNumbers n
+refusal-numbers l n p d = hit documentNumbers n (document-refusal l n p d .1)
 
 -- ---- every element
 

@@ -6,7 +6,7 @@ use Prim.Native.Nat.{ℕ, zero, suc, _+_, _≤_, _<_}
 use Prim.Native.Char.{code}
 use native.Mathlib.Omega.{arith}
 use borrow.Author.Tests.{leb-true, leb-false, eqb-true, eqb-false, not-false}
-use lib.Dec.{T, eqb, leb}
+use lib.Dec.{eqb, leb}
 use lib.ListN.{length, getD, drop}
 use Rattle.text.specs.Ascii.{ascii}
 use Rattle.text.specs.Logic.{cond-cases, and-left, eql}
@@ -40,7 +40,7 @@ use Rattle.document.specs.Elements.{starts, total}
 use Rattle.document.specs.Tags.{moved, maxInfos, afterPrefix, nameIn, ruled, textStep, enterStep, isMisplaced, openStep, emptyStep, otherStep, boundStep, alertStep, isAlert, startStep, closeStep, isRightEnd, endStep, endedStep, tagEndStep, tagStep}
 use Rattle.document.specs.Constructs.{commentStep, constructStep, afterSpace, stepOf}
 use Rattle.document.specs.Documents.{elementsOf}
-use Rattle.document.proofs.Numbers.{isNumber, rule-number}
+use Rattle.document.proofs.Numbers.{IsNumber, rule-number}
 
 -- ---- what holds of a step
 
@@ -75,9 +75,9 @@ pub record Onward (l : List ℕ) (m m′ : Mode) (e : Event) : Type 0 where
   pub limited : m .infos ≤ maxInfos → m′ .infos ≤ maxInfos
   pub event : SoundEvent l (m .state) e
 
--- what holds of a refusal: its offset lies in the document or at its length
+-- what holds of a refusal: its offset lies in the document or at its length, and its number is in the list
 abbrev pub Refusal : List ℕ → (number offset : ℕ) → Type 0
-Refusal l n p = (p ≤ length l) × T (isNumber n)
+Refusal l n p = (p ≤ length l) × IsNumber n
 
 abbrev pub SoundStep : List ℕ → Mode → Step → Type 0
 SoundStep l m (Next m′ e) = Onward l m m′ e
@@ -102,7 +102,6 @@ placed m c e =
     let q = or-none (eqb c 0) (not (eqb (m .leaf) 0)) (p .0) in
     record { known = eqb-false c 0 (q .0); outside = not-false (eqb (m .leaf) 0) (q .1); follows = eqb-false (nextOf (m .state) c) 0 (p .1) }
 
-
 module _ (l : List ℕ) (m : Mode) where
   cases : (t : Bool) (x y : Step) → (t ≡ true → SoundStep l m x) → (t ≡ false → SoundStep l m y) → SoundStep l m (cond t x y)
   cases = cond-cases (SoundStep l m)
@@ -123,7 +122,7 @@ module _ (l : List ℕ) (m : Mode) (inside : m .at < length l) where
   ruled-sound leaf c from until zero g b r o k f =
       on l m until (nextOf (m .state) c) leaf (Text c from until) (omega arith) k refl refl
       (record { leaf = b; rule = sym r; ordered = o; inside = k; clean = f })
-  ruled-sound leaf c from until (suc n) g b r o k f = (omega arith, rw (← r) at (rule-number c (part l from until)))
+  ruled-sound leaf c from until (suc n) g b r o k f = (omega arith, rule-number c n (part l from until) r)
 
   text-sound :
       (c from : ℕ) → m .at < from → class.lastContainer < c → (r : Content) → texts.content l from ≡ r

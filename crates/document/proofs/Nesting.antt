@@ -4,15 +4,13 @@ use mathlib.Core.Bool.{true, cond, false≢true}
 use mathlib.Core.List.{List, [], _∷_, _++_, append-assoc, append-nil}
 use Prim.Native.Nat.{ℕ, zero, suc, _+_, _≤_, _<_}
 use native.Mathlib.Omega.{arith}
-use borrow.Author.Tests.{eqb-true, eq-eqb}
+use borrow.Author.Tests.{eq-eqb}
 use lib.Dec.{eqb}
 use lib.ListN.{length, length-append}
-use Rattle.text.specs.Logic.{by-test}
 use Rattle.text.specs.Answers.{gives}
 use Rattle.schema.specs.Classes as class
-use Rattle.schema.specs.Sequences.{Particle, particles, containerOf, nextOf, before, over, follows, complete}
-use Rattle.schema.specs.Matching.{Matches}
-use Rattle.schema.proofs.Matching.{left, left-all, follows-matches, matches-follows, complete-matches, matches-complete}
+use Rattle.schema.specs.Sequences.{particles, Matches, containerOf, nextOf, before, over, follows, complete}
+use Rattle.schema.proofs.Left.{left, left-all, follows-matches, matches-follows, complete-matches, matches-complete}
 use Rattle.schema.proofs.States.{state, Among, afterEnd, is-sequence, container-is, known, leaf-next, container-next, among-next, back, may-follow, end-next, may-end, when-over, among-first}
 use Rattle.document.specs.Elements.{Element, opened, text, closed}
 use Rattle.document.specs.Documents.{documentOf}
@@ -23,12 +21,18 @@ use Rattle.document.proofs.Schema.{follow, follows-schema, taken, ended
 
 -- ---- from the table to the sequences
 
--- what stands after the children of a container: nothing in the document itself, else the container's end and what leads on from it
+-- the end of a container after its children, and the elements after it
+record Ended (c : ℕ) (inner es : List Element) : Type 0 where
+  after : List Element
+  split : es ≡ inner ++ closed c ∷ after
+  leads : follow (afterEnd c) after ≡ over
+  sorted : Every Sorted after
+  less : length after < length es
+
+-- what stands after the children of a container: nothing in the document itself
 abbrev Rest : (container : ℕ) → (inner es : List Element) → Type 0
 Rest zero inner es = es ≡ inner
-Rest (suc c) inner es =
-    (xs : List Element)
-    × ((es ≡ inner ++ closed (suc c) ∷ xs) × ((follow (afterEnd (suc c)) xs ≡ over) × (Every Sorted xs × (length xs < length es))))
+Rest (suc c) inner es = Ended (suc c) inner es
 
 -- the children that are left of a container of which k particles are passed, and what stands after them
 record Contents (c k : ℕ) (es : List Element) : Type 0 where
@@ -55,10 +59,16 @@ module _ {c k : ℕ} (a : Among c k) (d : ℕ) (n : follows k d 1 (particles c) 
     where
       go : (c : ℕ) → Rest c (r .inner) es → Rest c (front ++ r .inner) (front ++ es)
       go zero e = ap (λ (xs : List Element). front ++ xs) e
-      go (suc c) (xs, (e, (h, (s, l)))) =
-          (xs,
-          (ap (λ (ys : List Element). front ++ ys) e ∙ sym (append-assoc front (r .inner) (closed (suc c) ∷ xs)),
-          (h, (s, omega (arith, length-append front es)))))
+      go (suc c) e =
+          record {
+            after = e .after;
+            split =
+                ap (λ (ys : List Element). front ++ ys) (e .split)
+                ∙ sym (append-assoc front (r .inner) (closed (suc c) ∷ e .after));
+            leads = e .leads;
+            sorted = e .sorted;
+            less = omega (arith, length-append front es, e .less);
+          }
 
 -- a container whose contents are known, in front
 container-in-front :
@@ -67,20 +77,18 @@ container-in-front :
     → ((xs : List Element) → length xs < length es → Every Sorted xs → follow (afterEnd d) xs ≡ over → Contents c (follows k d 1 (particles c)) xs)
     → Contents c k (opened d p ∷ es)
 container-in-front {c} {k} a zero p n es g h r f = absurd (omega arith)
-container-in-front {c} {k} a (suc d) p n es g h r f = go (r .rest)
-  where
-    go : Rest (suc d) (r .inner) es → Contents c k (opened (suc d) p ∷ es)
-    go (xs, (e, (q, (s, l)))) =
-        let front : List Element = opened (suc d) p ∷ (r .inner ++ (closed (suc d) ∷ [])) in
-        let z : front ++ xs ≡ opened (suc d) p ∷ es =
-        ap (λ (ys : List Element). opened (suc d) p ∷ ys) (append-assoc (r .inner) (closed (suc d) ∷ []) xs ∙ sym e) in
-        subst (Contents c k) z
-        (in-front a (suc d) n front xs
-        (λ inner cs m.
-        rw (append-assoc (r .inner) (closed (suc d) ∷ []) inner)
-        (container h (r .children) (subst (λ (ps : List Particle). Matches ps (r .classes)) (left-all 0 1 (particles (suc d)) (omega arith)) (r .matches)) m))
-        (f xs l s q))
+container-in-front {c} {k} a (suc d) p n es g h r f =
+    let o = r .rest in
+    let front : List Element = opened (suc d) p ∷ (r .inner ++ (closed (suc d) ∷ [])) in
+    subst (Contents c k)
+    (ap (λ (ys : List Element). opened (suc d) p ∷ ys) (append-assoc (r .inner) (closed (suc d) ∷ []) (o .after) ∙ sym (o .split)))
+    (in-front a (suc d) n front (o .after)
+    (λ inner cs m.
+    rw (append-assoc (r .inner) (closed (suc d) ∷ []) inner)
+    (container h (r .children) (rw (left-all 0 1 (particles (suc d)) (omega arith)) at (r .matches)) m))
+    (f (o .after) (o .less) (o .sorted) (o .leads)))
 
+-- elements that the table takes, from a container's state to the document's end; n bounds their number
 contents :
     (n c k : ℕ) (es : List Element) → length es < n → Among c k → Every Sorted es → follow (state c k) es ≡ over → Contents c k es
 unfolding follow
@@ -121,7 +129,8 @@ contents (suc n) c k (closed d ∷ es) b a s h = go c a h
       where
         last : (c : ℕ) → 0 < c → d ≡ c → follow (afterEnd c) es ≡ over → Rest c [] (closed d ∷ es)
         last zero g e q = absurd (omega arith)
-        last (suc c) g e q = (es, (ap (λ (x : ℕ). closed x ∷ es) e, (q, (s .1, omega arith))))
+        last (suc c) g e q =
+            record { after = es; split = ap (λ (x : ℕ). closed x ∷ es) e; leads = q; sorted = s .1; less = omega arith }
 
 -- the elements of an accepted document follow the schema
 pub matches-schema : (l : List ℕ) (es : List Element) → documentOf l ≡ gives es → FollowsSchema es
@@ -130,7 +139,7 @@ matches-schema l es d =
     record {
       classes = r .classes;
       children = subst (λ (xs : List Element). Children xs (r .classes)) (sym (r .rest)) (r .children);
-      matches = subst (λ (ps : List Particle). Matches ps (r .classes)) (left-all 0 1 (particles 0) (omega arith)) (r .matches);
+      matches = rw (left-all 0 1 (particles 0) (omega arith)) at (r .matches);
     }
 
 -- ---- from the sequences to the table
@@ -142,6 +151,7 @@ record Passed (c k : ℕ) (inner : List Element) : Type 0 where
   whole : Matches (left index 1 (particles c)) []
   leads : (es : List Element) → follow (state c k) (inner ++ es) ≡ follow (state c index) es
 
+-- a container's end, where nothing is missing
 container-ended :
     {d k : ℕ} (a : Among d k) → 0 < d → Matches (left k 1 (particles d)) [] → (es : List Element)
     → follow (state d k) (closed d ∷ es) ≡ follow (afterEnd d) es
@@ -149,6 +159,7 @@ unfolding follow
 container-ended {d} {k} a g m es =
     rw (eq-eqb d (containerOf (state d k)) (sym (container-is a)), end-next a g (matches-complete k 1 (particles d) m))
 
+-- children that match what is left of a container pass
 pass : {inner : List Element} {cs : List ℕ} → Children inner cs → (c k : ℕ) → Among c k → Matches (left k 1 (particles c)) cs → Passed c k inner
 unfolding follow
 pass none c k a m = record { index = k; among = a; whole = m; leads = λ es. refl }
@@ -161,10 +172,10 @@ pass (leaf {c = d} {es = rest} {cs = cs} h r) c k a m =
       whole = q .whole;
       leads = λ es. ap (λ (x : ℕ). follow x (rest ++ es)) (leaf-next a d (f .0) h) ∙ q .leads es;
     }
-pass (container {c = d} {inner = inner} {es = rest} {ds = ds} {cs = cs} h i o r) c k a m =
+pass (container {c = d} {inner = inner} {es = rest} {cs = cs} h i o r) c k a m =
     let f = matches-follows k d 1 (particles c) cs (is-sequence c (a .container)) (omega arith) m in
     let q = pass r c (follows k d 1 (particles c)) (among-next a d (f .0)) (f .1) in
-    let g = pass i d 0 (among-first d h) (subst (λ (ps : List Particle). Matches ps ds) (sym (left-all 0 1 (particles d) (omega arith))) o) in
+    let g = pass i d 0 (among-first d h) (rw (left-all 0 1 (particles d) (omega arith)) o) in
     record {
       index = q .index;
       among = q .among;
@@ -182,8 +193,7 @@ pass (container {c = d} {inner = inner} {es = rest} {ds = ds} {cs = cs} h i o r)
 pub schema-follows : (es : List Element) → FollowsSchema es → follow before es ≡ over
 unfolding follow
 schema-follows es r =
-    let p = pass (r .children) 0 0 (among-first 0 (omega arith))
-    (subst (λ (ps : List Particle). Matches ps (r .classes)) (sym (left-all 0 1 (particles 0) (omega arith))) (r .matches)) in
+    let p = pass (r .children) 0 0 (among-first 0 (omega arith)) (rw (left-all 0 1 (particles 0) (omega arith)) (r .matches)) in
     ap (follow before) (sym (append-nil es)) ∙ (p .leads [] ∙ last (p .index) (p .among) (matches-complete (p .index) 1 (particles 0) (p .whole)))
   where
     last : (k : ℕ) → Among 0 k → complete k 1 (particles 0) ≡ true → state 0 k ≡ over

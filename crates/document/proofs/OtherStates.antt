@@ -5,7 +5,6 @@ use mathlib.Core.Bool.{Bool, true, false, cond, not, _&&_, _||_}
 use mathlib.Core.List.{List, []}
 use Prim.Native.Nat.{ℕ, zero, suc, _+_, _<_}
 use Prim.Native.Char.{code}
-use native.Mathlib.Omega.{arith}
 use borrow.Author.Tests.{eqb-true, eqb-false, ne-eqb}
 use lib.Dec.{eqb, leb}
 use lib.ListN.{length, getD, drop}
@@ -35,7 +34,7 @@ use Rattle.document.specs.declared.Event.{Event}
 use Rattle.document.specs.declared.Event.the-variants.{Silent, Opened, Text, Closed}
 use Rattle.document.specs.declared.Step.{Step}
 use Rattle.document.specs.declared.Step.the-variants.{Next, Done, Refused}
-use Rattle.document.specs.Tags.{moved, maxInfos, afterPrefix, nameIn, ruled, textStep, enterStep, isMisplaced, openStep, emptyStep, otherStep, boundStep, alertStep, localName, isAlert, startStep, openClass, closeStep, isRightEnd, endStep, endedStep, tagEndStep, tagStep}
+use Rattle.document.specs.Tags.{moved, maxInfos, afterPrefix, nameIn, ruled, textStep, enterStep, isMisplaced, openStep, emptyStep, otherStep, boundStep, alertStep, isAlert, startStep, closeStep, isRightEnd, endStep, endedStep, tagEndStep, tagStep}
 use Rattle.document.specs.Constructs.{commentStep, stopStep, constructStep, afterSpace, stepOf}
 use Rattle.document.proofs.Events.{stateAfter, Placed, placed, or-none, onward}
 
@@ -100,8 +99,8 @@ module _ (l : List ℕ) (m : Mode) (s : ℕ) (d : s ≡ m .state → ⊥) where
   inside c p n = (
     λ e. n (ap (λ (x : ℕ). nextOf x c) e ∙ over-none c),
     λ e.
-    let z = only-alert c (λ q. n (ap (λ (x : ℕ). nextOf x c) e ∙ q)) .0 in
-    d (e ∙ sym (alert-before (m .state) (λ q. p .follows (ap (nextOf (m .state)) z ∙ q)))),
+        let z = only-alert c (λ q. n (ap (λ (x : ℕ). nextOf x c) e ∙ q)) .0 in
+        d (e ∙ sym (alert-before (m .state) (λ q. p .follows (ap (nextOf (m .state)) z ∙ q)))),
   )
 
   -- behind a test that is false where the class may follow

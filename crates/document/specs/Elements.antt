@@ -4,7 +4,7 @@ use mathlib.Core.List.{List, [], _∷_, _++_}
 use Prim.Native.Nat.{ℕ, _+_}
 use lib.Dec.{eqb}
 use mir.Val.{boolByte}
-use Rattle.text.specs.Answers.{Answer, gives, refuses}
+use Rattle.text.specs.Answers.{Answer, gives, refuses, giving}
 use Rattle.schema.specs.Classes as class
 
 -- a container's start tag at an offset; a leaf's text, from the byte after its start tag on; a container's end
@@ -15,8 +15,7 @@ pub data Element : Type 0 where
 
 -- elements in front of those of an answer
 abbrev pub given : List Element → Answer (List Element) → Answer (List Element)
-given es (gives xs) = gives (es ++ xs)
-given es (refuses n p) = refuses n p
+given es = giving (λ (xs : List Element). es ++ xs)
 
 abbrev pub isStart : ℕ → Element → Bool
 isStart c (opened d p) = eqb d c

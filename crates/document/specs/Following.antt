@@ -1,18 +1,9 @@
--- What it is that a document's elements follow the schema, and that its constructs are sound.
-use mathlib.Core.Path.{_≡_}
+-- What it is that a document's elements follow the schema.
 use mathlib.Core.List.{List, [], _∷_, _++_}
 use Prim.Native.Nat.{ℕ, _≤_, _<_}
 use Rattle.schema.specs.Classes as class
-use Rattle.schema.specs.Sequences.{particles}
-use Rattle.schema.specs.Matching.{Matches}
-use Rattle.document.specs.declared.Mode.{Mode}
-use Rattle.document.specs.declared.Event.{Event}
-use Rattle.document.specs.declared.Event.the-variants.{Silent}
-use Rattle.document.specs.declared.Step.the-variants.{Next, Done}
+use Rattle.schema.specs.Sequences.{particles, Matches}
 use Rattle.document.specs.Elements.{Element, opened, text, closed}
-use Rattle.document.specs.Tags.{moved}
-use Rattle.document.specs.Constructs.{stepOf}
-use Rattle.document.specs.Documents.{elementsOf, begin, firstStep}
 
 -- whole elements, with the classes of the outermost ones: a leaf's text, or a container's start, its children and its end.
 -- "For each container .. the sequence and counts are those of 007's schema"
@@ -30,16 +21,3 @@ pub record FollowsSchema (es : List Element) : Type 0 where
   pub classes : List ℕ
   pub children : Children es classes
   pub matches : Matches (particles 0) classes
-
--- constructs up to the document's end, each taken in some state of the table: all but the schema's order is as it must be
-pub data Sound (l : List ℕ) : Mode → List Element → Type 0 where
-  ended : {m : Mode} (s : ℕ) → stepOf l (moved m (m .at) s (m .leaf)) ≡ Done → Sound l m []
-  taken :
-      {m m′ : Mode} {es : List Element} (s : ℕ) (e : Event) → stepOf l (moved m (m .at) s (m .leaf)) ≡ Next m′ e → Sound l m′ es
-      → Sound l m (elementsOf l e ++ es)
-
--- from what stands before the first construct on
-pub record SoundDocument (l : List ℕ) (es : List Element) : Type 0 where
-  pub at : ℕ
-  pub first : firstStep l ≡ Next (begin at) Silent
-  pub constructs : Sound l (begin at) es

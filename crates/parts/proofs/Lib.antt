@@ -2,6 +2,11 @@ pub mod Lookups
 pub mod Keeping
 pub mod Meant
 pub mod Durations
-pub mod Spans
 pub mod Standing
+pub mod Spans
+pub mod Coded
+pub mod Drawn
+pub mod Says
+pub mod Shapeless
+pub mod Numbers
 pub mod Ranges

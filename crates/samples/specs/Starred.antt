@@ -1,18 +1,18 @@
 -- The bench samples that document 01 marks with *, in a single statement over the definitions that the contracts name.
 use mathlib.Core.Path.{_≡_, refl}
 use mathlib.Core.Bool.{true, false}
+use mathlib.Core.List.{[], _∷_}
 use lib.IntN.{ℤ, pos, negℤ, _-ℤ_}
+use Rattle.text.specs.Answers.{gives, refuses, giving}
 use Rattle.text.specs.Ascii.{ascii}
-use Rattle.text.specs.Answers.{gives, refuses}
 use Rattle.time.specs.Time.{timeOf}
 use Rattle.time.specs.Samples.{sample-2002, sample-first, sample-zones}
 use Rattle.words.specs.Words.{words}
 use Rattle.words.specs.Duration.{duration}
 use Rattle.words.specs.Samples.{sample-numbers, sample-year, sample-quarter}
-use mathlib.Core.List.{[], _∷_}
-use Rattle.events.specs.declared.Receipt.the-variants.{Accepted, NotAbove}
-use Rattle.events.specs.Table.{tableOutcome}
-use Rattle.events.specs.Samples.{numbered, stored, sample-stored}
+use Rattle.packet.specs.Packet.{lastingOf, packetOf}
+use Rattle.events.specs.Table.{received}
+use Rattle.events.specs.Samples.{packetWith, stored, sample-stored, sample-lasting}
 use Rattle.circle.specs.Circle.{unitsOf, aroundHolds}
 use Rattle.circle.specs.Samples.{north, sample-circle}
 use Rattle.parts.specs.Sheets.{capSheet}
@@ -39,12 +39,14 @@ pub record Starred : Type 0 where
   pub year : duration 31_536_000 ≡ ascii "three hundred sixty five days"
   pub part-longest : capSheet 1 (until (ascii "2027-03-01T10:00:00-00:00")) ≡ gives (kiln 31_536_000)
   pub part-longer : capSheet 1 (until (ascii "2027-03-01T10:00:01-00:00")) ≡ refuses 7 0
+  pub packet-longest : giving lastingOf (packetOf (packetWith 1 31_536_000)) ≡ gives 31_536_000
+  pub packet-longer : packetOf (packetWith 1 31_536_001) ≡ refuses 7 0
   -- 1,015: one thousand fifteen; 0: zero
   pub thousand : words 1_015 ≡ ascii "one thousand fifteen"
   pub none : words 0 ≡ ascii "zero"
   -- stored 9: 9 refused, 10 taken
-  pub equal : tableOutcome 0 (numbered 9) (stored 9 ∷ []) .receipt ≡ NotAbove
-  pub above : tableOutcome 0 (numbered 10) (stored 9 ∷ []) .receipt ≡ Accepted
+  pub equal : received (stored 9 ∷ []) (packetWith 9 60) (21 ∷ []) true 0 .answer ≡ refuses 10 0
+  pub above : received (stored 9 ∷ []) (packetWith 10 60) (21 ∷ []) true 0 .answer ≡ gives tt
   -- 1,000 m: u is 89,932; due north 89,932 inside, 89,933 outside
   pub units : unitsOf 1_000 ≡ 89_932
   pub inside : aroundHolds (north 0) 1_000 (north 89_932) ≡ gives true
@@ -61,6 +63,8 @@ starred = record {
   year = sample-year .0;
   part-longest = samples .sample-year .0;
   part-longer = samples .sample-year .1;
+  packet-longest = sample-lasting .0;
+  packet-longer = sample-lasting .1;
   thousand = sample-numbers .0;
   none = sample-numbers .1;
   equal = sample-stored .0;

@@ -1,16 +1,16 @@
 -- A state is a container and how many of its particles are passed: what the table says there, in the words of the container's particles.
-use mathlib.Core.Path.{_≡_, refl, sym, ap, _∙_}
+use mathlib.Core.Path.{_≡_, sym, ap, _∙_}
 use mathlib.Core.Bool.{Bool, true, _&&_, _||_}
 use Prim.Native.Nat.{ℕ, _+_, _-_, _≤_, _<_}
 use native.Mathlib.Omega.{arith}
-use lib.Dec.{T, eqb, ltb}
+use lib.Dec.{eqb, ltb}
 use lib.ListN.{length}
 use borrow.Author.Tests.{ltb-true, eqb-true, eqb-false, lt-ltb, le-leb, lt-leb, eq-eqb, ne-eqb}
 use Rattle.text.specs.Logic.{by-test, and-left, and-right, below, below-at, true-T}
 use Rattle.schema.specs.Classes as class
 use Rattle.schema.specs.Sequences.{particles, parentOf, firstState, states, classes, over, containerOf, follows, complete, indexIn, nextIn, nextOf}
 use Rattle.schema.proofs.Table.{inside}
-use Rattle.schema.proofs.Matching.{isSequence, index-within, class-within}
+use Rattle.schema.proofs.Left.{isSequence, index-within, class-within}
 
 abbrev pub state : (container passed : ℕ) → ℕ
 state c k = firstState c + k

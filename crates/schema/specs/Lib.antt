@@ -1,4 +1,3 @@
 pub mod Classes
 pub mod Sequences
-pub mod Matching
 pub mod Tables

@@ -1,9 +1,10 @@
 -- The schema's sequences (source document 007, clause 7.4): which elements a container holds, in which order and how often; and what may follow what.
+use mathlib.Core.Path.{_≡_}
 use mathlib.Core.Bool.{Bool, true, false, cond, not, _&&_, _||_}
-use mathlib.Core.List.{List, [], _∷_}
-use Prim.Native.Nat.{ℕ, zero, suc, _+_, _-_}
+use mathlib.Core.List.{List, [], _∷_, _++_}
+use Prim.Native.Nat.{ℕ, zero, suc, _+_, _-_, _≤_}
 use lib.Dec.{eqb, leb, ltb}
-use lib.ListN.{length, getD}
+use lib.ListN.{length, getD, replicate}
 use Rattle.schema.specs.Classes as class
 
 -- ---- "the sequence and counts are those of 007's schema"
@@ -25,11 +26,6 @@ zeroOrMore c = record { class = c; least = 0; many = true }
 
 abbrev optional : ℕ → Particle
 optional c = record { class = c; least = 0; many = false }
-
--- the document itself, as container 0
-abbrev documentParticles : List Particle
-documentParticles =
-    one class.alert ∷ []
 
 abbrev alertParticles : List Particle
 alertParticles =
@@ -60,14 +56,21 @@ abbrev pairParticles : List Particle
 pairParticles =
     one class.valueName ∷ one class.value ∷ []
 
--- the sequence of a container
+-- the sequence of a container; the document itself is container 0
 abbrev pub particles : ℕ → List Particle
 particles c =
     getD
-    (documentParticles ∷ alertParticles ∷ infoParticles ∷ resourceParticles ∷ areaParticles
+    ((one class.alert ∷ []) ∷ alertParticles ∷ infoParticles ∷ resourceParticles ∷ areaParticles
     ∷ pairParticles ∷ pairParticles ∷ pairParticles ∷ [])
     c
     []
+
+-- classes in a row that match a sequence: of each particle in order its class, k times, and nothing else
+pub data Matches : List Particle → List ℕ → Type 0 where
+  none : Matches [] []
+  times :
+      {p : Particle} {ps : List Particle} {cs rest : List ℕ} (k : ℕ) → p .least ≤ k → (p .many ≡ false → k ≤ 1)
+      → Matches ps rest → cs ≡ replicate k (p .class) ++ rest → Matches (p ∷ ps) cs
 
 -- the container that a container stands in
 abbrev pub parentOf : ℕ → ℕ

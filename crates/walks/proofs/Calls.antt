@@ -1,7 +1,8 @@
 -- A call in a walk by hand, to the place where its result is stored.
 --     called           of any function, from the tokens and what its parameters own: its result, its tokens, what is said of the last values, and
 --                      what its contract ensures
---     calls-equal      of a function whose result is plain data that the contract equates with x: the result is x. φ is what the contract ensures
+--     calls-some       of a function whose result is plain data. φ is what the contract ensures
+--     calls-equal      of a function whose result is plain data that the contract equates with x: the result is x
 --     calls-plain      of a function of plain data whose result the contract equates with x: all that is asked is had for nothing, and the result is
 --                      x
 -- The operands are read with what is asked in front of the context.
@@ -60,6 +61,26 @@ module _ {M : Type 1} {𝓤 : URA M} {H : Heap 𝓤} {A : Atoms 𝓤} {K : Type 
       await t tt $ pick t (λ r. split t $ split t $ move t (2 ∷ []) $ pick t (λ ws. split t $ move t (3 ∷ []) $
       peeks t O (Is O) (shows 𝓤 H A O) r (u ∷ []) (λ is. move t (2 ∷ 3 ∷ 0 ∷ 1 ∷ []) $ k u r ws is))))
 
+  pub calls-some : K → (𝓣 : Tables 𝓤 H) (T : Ended) (c : Clauses 𝓤 T) → Triple 𝓤 (𝓣 .C f) (tripleOf 𝓤 H A (T .signature) (closing 𝓤 H A T c))
+      → (y : tripleOf 𝓤 H A (T .signature) (closing 𝓤 H A T c) .Ghost) {i : Item 𝓤}
+      → ent 𝓤 (mean 𝓤 H A i) (onEntry 𝓤 H A (T .signature) (y .0 .0) (y .0 .1) (y .0 .3) (y .0 .4))
+      → ent 𝓤 (emp 𝓤) (c (y .0 .0) (y .0 .3) .requires (y .1))
+      → (p : Plain (typeAt (T .signature .result) (y .0 .0))) (φ : Res (T .signature) (y .0 .0) → Lasts T (y .0 .0) (y .0 .3) → Type 0)
+      → ((r : Res (T .signature) (y .0 .0)) (ws : Lasts T (y .0 .0) (y .0 .3)) → ent 𝓤
+      (c (y .0 .0) (y .0 .3) .ensures (y .1) r (atExit T (y .0 .0) (y .0 .3) ws)) (fact 𝓤 (φ r ws)))
+      → Opds K W (raw (tripleOf 𝓤 H A (T .signature) (closing 𝓤 H A T c) .pre y) ∷ Γ) E xs (tripleOf 𝓤 H A (T .signature) (closing 𝓤 H A T c) .args y)
+      → ((r : Res (T .signature) (y .0 .0)) (ws : Lasts T (y .0 .0) (y .0 .3)) → φ r ws → Is (typeAt (T .signature .result) (y .0 .0)) r
+      (p .spelled .val r ∷ [])
+      → Seq K W (raw (alive 𝓤 H A (T .signature) (y .0 .0) (y .0 .1)) ∷ ‵ (lasts T (y .0 .0) (y .0 .3) ws) ∷ Γ)
+      (lands (𝓣 .C) (𝓣 .Λ) E d (p .spelled .val r) rest q))
+      → Seq K W (i ∷ Γ) (runs (𝓣 .C) (𝓣 .Λ) E (seq (call f xs d) rest) q)
+  calls-some t 𝓣 T c known y has req p φ said os k =
+      let O : RattleType = typeAt (T .signature .result) (y .0 .0) in
+      let z : Spelled O = p .spelled in
+      called t 𝓣 T c known y has req os (λ u r ws is. use1 W (raw (fact 𝓤 (φ r ws))) (said r ws) $ heard t (φ r ws) (λ h. move t (1 ∷ []) $ drop t $
+      subst (λ (v : Val). Seq K W (raw (alive 𝓤 H A (T .signature) (y .0 .0) (y .0 .1)) ∷ ‵ (lasts T (y .0 .0) (y .0 .3) ws) ∷ Γ)
+      (lands (𝓣 .C) (𝓣 .Λ) E d v rest q)) (sym (ap only (z .tells r (u ∷ []) is))) (k r ws h (subst (Is O r) (z .tells r (u ∷ []) is) is))))
+
   pub calls-equal : K → (𝓣 : Tables 𝓤 H) (T : Ended) (c : Clauses 𝓤 T) → Triple 𝓤 (𝓣 .C f) (tripleOf 𝓤 H A (T .signature) (closing 𝓤 H A T c))
       → (y : tripleOf 𝓤 H A (T .signature) (closing 𝓤 H A T c) .Ghost) {i : Item 𝓤}
       → ent 𝓤 (mean 𝓤 H A i) (onEntry 𝓤 H A (T .signature) (y .0 .0) (y .0 .1) (y .0 .3) (y .0 .4))
@@ -77,11 +98,10 @@ module _ {M : Type 1} {𝓤 : URA M} {H : Heap 𝓤} {A : Atoms 𝓤} {K : Type 
   calls-equal t 𝓣 T c known y has req p x φ said eq os k =
       let O : RattleType = typeAt (T .signature .result) (y .0 .0) in
       let z : Spelled O = p .spelled in
-      called t 𝓣 T c known y has req os (λ u r ws is. use1 W (raw (fact 𝓤 (φ r ws))) (said r ws) $ heard t (φ r ws) (λ h. move t (1 ∷ []) $ drop t $
+      calls-some t 𝓣 T c known y has req p φ said os (λ r ws h is.
       subst (λ (v : Val). Seq K W (raw (alive 𝓤 H A (T .signature) (y .0 .0) (y .0 .1)) ∷ ‵ (lasts T (y .0 .0) (y .0 .3) ws) ∷ Γ)
-      (lands (𝓣 .C) (𝓣 .Λ) E d v rest q)) (sym (ap only (z .tells r (u ∷ []) is) ∙ ap (z .val) (eq r ws h)))
-      (k ws (subst (λ (o : O .Denot). φ o ws) (eq r ws h) h) (subst (λ (o : O .Denot). Is O o (z .val o ∷ [])) (eq r ws h)
-      (subst (Is O r) (z .tells r (u ∷ []) is) is)))))
+      (lands (𝓣 .C) (𝓣 .Λ) E d v rest q)) (sym (ap (z .val) (eq r ws h)))
+      (k ws (subst (λ (o : O .Denot). φ o ws) (eq r ws h) h) (subst (λ (o : O .Denot). Is O o (z .val o ∷ [])) (eq r ws h) is)))
 
   pub calls-plain : K → (𝓣 : Tables 𝓤 H) (T : Ended) (c : Clauses 𝓤 T) → Triple 𝓤 (𝓣 .C f) (tripleOf 𝓤 H A (T .signature) (closing 𝓤 H A T c))
       → (κs : Lfts (T .signature .lifetimes)) (qs : Shares (T .signature .lifetimes))

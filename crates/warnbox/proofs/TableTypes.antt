@@ -3,6 +3,10 @@
 use Rattle.walks.proofs.Types.{Plain, struct, enum}
 use Rattle.events.proofs.Entry as T
 use Rattle.events.proofs.Entry.Laws as T′
+use Rattle.events.proofs.New as S
+use Rattle.events.proofs.New.Laws as S′
+use Rattle.events.proofs.Refusal as F
+use Rattle.events.proofs.Refusal.Laws as F′
 use Rattle.events.proofs.Receipt as N
 use Rattle.events.proofs.Receipt.Laws as N′
 use Rattle.events.proofs.Position as O
@@ -17,14 +21,20 @@ use Rattle.events.proofs.plans.Plan.Laws as L′
 abbrev pub entry : Plain T.the-row
 entry = struct T.the-type T′.the-laws T′.the-plain
 
+abbrev pub new : Plain S.the-row
+new = struct S.the-type S′.the-laws S′.the-plain
+
 abbrev pub checked : Plain K.the-row
-checked = struct K.the-type K′.the-laws K′.the-plain
+checked = enum K.the-type K′.the-laws tt K′.the-plain
 
 abbrev pub candidates : Plain P.the-row
 candidates = struct P.the-type P′.the-laws P′.the-plain
 
 abbrev pub plan : Plain L.the-row
-plan = struct L.the-type L′.the-laws L′.the-plain
+plan = enum L.the-type L′.the-laws tt L′.the-plain
+
+abbrev pub refusal : Plain F.the-row
+refusal = enum F.the-type F′.the-laws tt F′.the-plain
 
 abbrev pub receipt : Plain N.the-row
 receipt = enum N.the-type N′.the-laws tt N′.the-plain

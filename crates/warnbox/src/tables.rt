@@ -1,12 +1,14 @@
 // The event table as the caller lends it: a run of entries of any length.
 use events::Entry;
+use events::New;
 use events::Position;
 use events::Receipt;
 use events::checks::Checked;
 use events::plans::Candidates;
+use events::plans::Plan;
 ghost use mathlib.Core.Path.{_≡_};
-ghost use Rattle.events.specs.Table.{positionOf, received, receiptNumber, sweptAll};
-ghost use Rattle.events.specs.Steps.{scanned, accepting};
+ghost use Rattle.events.specs.Table.{positionOf, tableOutcome, answered, received, receiptAnswer, answerNumber, sweptAll};
+ghost use Rattle.events.specs.Steps.{scanned, checkedAnswer};
 
 // Frees the used entries whose keep-until is below a time.
 #[no_mangle]
@@ -41,17 +43,33 @@ pub fn find(entries: &[Entry], key: u32, event: u32) -> Position
     events::plans::position(found, entries.len())
 }
 
-// A packet after the checks before the table is accepted or refused.
-pub fn accept(entries: &mut [Entry], checked: Checked) -> Receipt
-    ensures { λ r. ⌜ (r ≡ accepting checked (now (entries .entry)) .receipt) × (now (entries .exit) ≡ accepting checked (now (entries .entry)) .entries) ⌝ }
+// A packet that passed the checks before the table is accepted or refused.
+pub fn accept(entries: &mut [Entry], new: New) -> Receipt
+    ensures { λ r. ⌜ (receiptAnswer r ≡ tableOutcome new (now (entries .entry)) .answer) × (now (entries .exit) ≡ tableOutcome new (now (entries .entry)) .entries) ⌝ }
 {
     let n = entries.len();
-    let found = scan(entries, checked.entry.key, checked.entry.event);
-    let plan = events::plans::decide(found, n, checked);
-    if plan.at < n {
-        entries[plan.at] = plan.entry;
+    let found = scan(entries, new.key, new.event);
+    let plan = events::plans::decide(found, n, new);
+    match plan {
+        Plan::Store(at, entry) => {
+            entries[at] = entry;
+            Receipt::Accepted
+        }
+        Plan::Refused(refusal) => Receipt::Refused(refusal),
     }
-    plan.receipt
+}
+
+// A packet after the checks before the table.
+fn answer(entries: &mut [Entry], checked: Checked) -> Receipt
+    ensures { λ r. ⌜ (receiptAnswer r ≡ answered (now (entries .entry)) (checkedAnswer checked) .answer) × (now (entries .exit) ≡ answered (now (entries .entry)) (checkedAnswer checked) .entries) ⌝ }
+{
+    match checked {
+        Checked::Passed(new) => {
+            let receipt = accept(entries, new);
+            receipt
+        }
+        Checked::Refused(refusal) => Receipt::Refused(refusal),
+    }
 }
 
 // A packet is received. `verdict` is the signature chip's, `keys` are the key ids that are listened to; every refusal's offset is 0.
@@ -63,9 +81,9 @@ pub extern "C" fn warnbox_receive(
     verdict: bool,
     clock: u64,
 ) -> u8
-    ensures { λ r. ⌜ (r ≡ receiptNumber (received (now (entries .entry)) (now (packet .entry)) (now (keys .entry)) verdict clock .receipt)) × (now (entries .exit) ≡ received (now (entries .entry)) (now (packet .entry)) (now (keys .entry)) verdict clock .entries) ⌝ }
+    ensures { λ r. ⌜ (r ≡ answerNumber (received (now (entries .entry)) (now (packet .entry)) (now (keys .entry)) verdict clock .answer)) × (now (entries .exit) ≡ received (now (entries .entry)) (now (packet .entry)) (now (keys .entry)) verdict clock .entries) ⌝ }
 {
     let checked = events::checks::check(packet, keys, verdict, clock);
-    let receipt = accept(entries, checked);
+    let receipt = answer(entries, checked);
     events::receipt_number(receipt)
 }
