@@ -61,6 +61,7 @@ pub record Writes (xs : List Sheet) (d : List ℕ) (at : ℕ) (e : List ℕ) (en
   pub buffer : e ≡ written d at (sentences xs)
   pub size : length e ≡ length d
   pub place : end ≡ at + length (sentences xs)
+  -- they lie in the buffer, and from a start past its end none is written
   pub fits : at ≤ length d → end ≤ length d
   pub past : length d < at → xs ≡ []
   pub sound : allInRange xs ≡ true

@@ -96,6 +96,6 @@ IsAsciiBut (cap f sender name) =
     (a b c : List ℕ) × ((sentence (cap f sender name) ≡ a ++ (sender ++ (b ++ (name ++ c)))) × (allAscii (a ++ (b ++ c)) ≡ true))
 IsAsciiBut (warn x) = allAscii (sentence (warn x)) ≡ true
 
--- the length of the longest sentence of a sheet in range, its newline included: proofs/Lengths.antt has a WARN sheet that reaches it
+-- the length of the longest sentence of a sheet in range, its newline included (proofs/Lengths.antt: `sentence-le`, `longest-reached`)
 abbrev pub longest : ℕ
 longest = 651
