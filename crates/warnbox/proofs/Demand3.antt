@@ -4,9 +4,11 @@ use mathlib.Core.List.{List}
 use Prim.Native.Nat.{ℕ}
 use Rattle.text.specs.Answers.{Answer, gives, refuses, andThen}
 use Rattle.text.specs.Logic.{cond-cases}
+use Rattle.buffer.specs.Writing.{hasRoom, writeText}
 use Rattle.sheet.specs.declared.Found.{Found}
 use Rattle.sheet.specs.Sheet.{Sheet, inRange}
-use Rattle.sheet.specs.Answers.{hasRoom, isWritable, writing, after}
+use Rattle.sheet.specs.Sentence.{sentence}
+use Rattle.sheet.specs.Answers.{writing, after}
 use Rattle.sheet.specs.Demand.{Call}
 use Rattle.sheet.proofs.WriteAll.{lifted}
 use Rattle.sheet.proofs.Demand3 as sheets
@@ -21,10 +23,10 @@ abbrev Told : Answer ℕ → Type 0
 Told a = answerOf (reply a .number) (reply a .value) ≡ a
 
 told : (d : List ℕ) (at : ℕ) (x : Sheet) → Told (writing d at x)
-unfolding writing
+unfolding writing writeText
 told d at x =
     cond-cases Told (inRange x) _ _
-    (λ e. cond-cases Told (hasRoom d at x) _ _ (λ f. refl) (λ f. refl))
+    (λ e. cond-cases Told (hasRoom d at (sentence x)) _ _ (λ f. refl) (λ f. refl))
     (λ e. refl)
 
 -- ---- what is handed in is a sheet, or refused with 23
@@ -34,6 +36,7 @@ data HandedIn : Answer Found → Type 0 where
   none : HandedIn (refuses 23 0)
 
 standing-is : (t : List ℕ) (x : Found) → HandedIn (standing t x)
+unfolding standing
 standing-is t x = cond-cases HandedIn (standsIn t x) _ _ (λ e. sheet x) (λ e. none)
 
 handed-is : (t n : List ℕ) → HandedIn (handedIn t n)
@@ -48,7 +51,7 @@ handed-is t n =
 as-writer :
     (d : List ℕ) (at : ℕ) (t : List ℕ) (a : Answer Found) → HandedIn a
     → (sentenceOf d at t a ≡ writing d at (sheetGiven t a)) × (afterSentence d at t a ≡ after d at (sheetGiven t a))
-unfolding writing after isWritable inRange
+unfolding writing after inRange sentenceOf afterSentence
 as-writer d at t (gives x) h = (refl, refl)
 as-writer d at t (refuses n p) none = (refl, refl)
 

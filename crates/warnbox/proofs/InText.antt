@@ -38,10 +38,11 @@ module _ (d : List ℕ) (start : ℕ) (t : List ℕ) (f : CapFacts) (s n : Span)
       liesIn t s && liesIn t n ≡ true
       → (r ≡ reply (writing d start (cap f (spanIn t s) (spanIn t n)))) × (e ≡ after d start (cap f (spanIn t s) (spanIn t n)))
       → (r ≡ reply (sentenceOf d start t (standing t (found.Cap f s n)))) × (e ≡ afterSentence d start t (standing t (found.Cap f s n)))
-  unfolding sheetIn
+  unfolding sentenceOf afterSentence standing sheetIn
   written-in h w = rw h w
 
 pub not-there :
     (d : List ℕ) (start : ℕ) (t : List ℕ) (f : CapFacts) (s n : Span) (r : Reply) → liesIn t s && liesIn t n ≡ false → r ≡ reply (refuses 23 0)
     → (r ≡ reply (sentenceOf d start t (standing t (found.Cap f s n)))) × (d ≡ afterSentence d start t (standing t (found.Cap f s n)))
+unfolding sentenceOf afterSentence standing
 not-there d start t f s n r h m = rw h (m, refl)

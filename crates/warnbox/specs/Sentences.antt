@@ -16,11 +16,11 @@ use Rattle.numbers.specs.Numbers.{numbersSheet, numbersOf}
 -- ---- the sentence of a sheet that is drawn or handed in, with the text t that holds its sender and name, into the buffer d from an offset on
 
 -- where it ends
-abbrev pub sentenceOf : List ℕ → ℕ → List ℕ → Answer Found → Answer ℕ
+unfoldable pub sentenceOf : List ℕ → ℕ → List ℕ → Answer Found → Answer ℕ
 sentenceOf d start t a = andThen a (λ x. writing d start (sheetIn t x))
 
 -- what the buffer then holds
-abbrev pub afterSentence : List ℕ → ℕ → List ℕ → Answer Found → List ℕ
+unfoldable pub afterSentence : List ℕ → ℕ → List ℕ → Answer Found → List ℕ
 afterSentence d start t (gives x) = after d start (sheetIn t x)
 afterSentence d start t (refuses n p) = d
 
@@ -35,7 +35,7 @@ abbrev pub standsIn : List ℕ → Found → Bool
 standsIn t (found.Cap f sender name) = liesIn t sender && liesIn t name
 standsIn t (found.Warn w) = true
 
-abbrev pub standing : List ℕ → Found → Answer Found
+unfoldable pub standing : List ℕ → Found → Answer Found
 standing t x = cond (standsIn t x) (gives x) (refuses 23 0)
 
 abbrev pub handedIn : (text numbers : List ℕ) → Answer Found

@@ -1,6 +1,7 @@
 -- By the kind of the sheet.
 use borrow.Author.Needs.{needs}
 use Rattle.sheet.specs.Reading.{sheetIn}
+use Rattle.warnbox.specs.Sentences.{sentenceOf, afterSentence, standing}
 use Rattle.warnbox.proofs.sentences.write_found.Statement.{statement}
 use Rattle.warnbox.proofs.sentences.write_found.Tie as tie
 
@@ -8,7 +9,7 @@ returns : tie.Need-returns
 returns c = rw (c .before .before .before .before .before .found .given .1) (c .before .before .write-cap-in .ensures)
 
 returns-2 : tie.Need-returns-2
-unfolding sheetIn
+unfolding sentenceOf afterSentence standing sheetIn
 returns-2 c = rw (c .before .before .before .before .before .found2 .given .1) (c .before .before .write-warn-sentence .ensures)
 
 pub write-found-spec : {M : Type 1} → statement M
