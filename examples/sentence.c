@@ -7,7 +7,7 @@
 #include "warnbox.h"
 
 static uint8_t document[65537]; /* one byte more than a document may have */
-static uint8_t text[16 * 739];  /* no sentence has more than 739 bytes, and a document 16 parts at most */
+static uint8_t text[16 * 651];  /* no sentence has more than 651 bytes, and a document 16 parts at most */
 
 static int refused(uint8_t number, uint64_t place) {
     printf("refused %u at %llu\n", number, (unsigned long long)place);

@@ -41,7 +41,7 @@ uint8_t warnbox_check_document(const uint8_t *document, size_t document_length, 
 
 /* Writes the sentence of a part into a buffer from `start` on; all other bytes of the buffer stay. Parts are counted from 1; a document
  * that has none is asked for part 0. *value: the next start, which is the offset after the sentence. Refusals: the document's own, then 21, 7, 13.
- * 739 bytes are room enough for any sentence. */
+ * 651 bytes are room enough for any sentence. */
 uint8_t warnbox_document_sentence(uint8_t *buffer, size_t buffer_length, size_t start,
                                   const uint8_t *document, size_t document_length, size_t part, uint64_t *value);
 

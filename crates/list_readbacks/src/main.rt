@@ -5,11 +5,9 @@ use libc::STDOUT_FILENO;
 use sheet::Found;
 use sheet::ReadBack;
 use sheet::WriteSheet;
+use shown::Facts;
 ghost use Prim.Native.Nat.{_≤_};
 ghost use lib.ListN.{length};
-
-// Room for any sentence.
-const SENTENCE_ROOM: usize = 1024;
 
 fn print(text: &[u8]) {
     io::write_all(STDOUT_FILENO, text);
@@ -32,23 +30,17 @@ fn print_written(sentence: &[u8], answer: WriteSheet) {
     }
 }
 
-fn part(text: &[u8], start: usize, len: usize) -> &[u8] {
-    text::first(text::skip(text, start), len)
-}
-
 // Writes the sentence of a sheet that was found in a text.
 fn print_found(text: &[u8], found: Found) {
-    let mut sentence = [0u8; SENTENCE_ROOM];
+    let mut sentence = [0u8; readback::LONGEST];
     match found {
         Found::Cap(facts, sender, name) => {
-            let from = part(text, sender.start, sender.len);
-            let answer = readback::write_cap(
-                &mut sentence,
-                0,
+            let shown = Facts {
                 facts,
-                from,
-                part(text, name.start, name.len),
-            );
+                sender,
+                name,
+            };
+            let answer = shown::write_shown(&mut sentence, 0, text, shown);
             print_written(&sentence, answer);
         }
         Found::Warn(facts) => {
