@@ -41,6 +41,7 @@ allowed l s (Opened c p) es h = (taken (nextOf s c) es h, h)
 allowed l s (Text c from until) es h = (taken (nextOf s c) es h, h)
 allowed l s (Closed c) es h = let k = ended-right s c es h in ((ended-class s c es h, taken (nextOf s 0) es k), k)
 
+-- sound constructs are read from any state from which their elements lead to the document's end
 sound-read :
     (l : List ℕ) {m : Mode} {es : List Element} → SoundFrom l m es → (s : ℕ) → follow s es ≡ over → readFrom l (inState s m) ≡ gives es
 unfolding follow
@@ -53,11 +54,13 @@ sound-read l (construct {m = m} {m′ = m′} {es = es} t e p r) s h =
     ∙ (ap (after l (readFrom l)) (other-state l (inState t m) m′ e s p (a .0))
     ∙ ap (given (elementsOf l e)) (sound-read l r (stateAfter s e) (a .1)))
 
+-- a document whose constructs are sound and whose containers match their sequences is accepted
 pub sound-accepted : (l : List ℕ) (es : List Element) → Sound l es → FollowsSchema es → documentOf l ≡ gives es
 unfolding documentOf
 sound-accepted l es d f =
     ap (after l (readFrom l)) (d .first) ∙ ap (given []) (sound-read l (d .constructs) before (schema-follows es f))
 
+-- and no other is
 pub accepted-sound : (l : List ℕ) (es : List Element) → documentOf l ≡ gives es → Sound l es × FollowsSchema es
 accepted-sound l es d =
     let h = accepted-holds l (SoundFrom l) (λ m p. end (m .state) p) (λ m m′ e xs p r. construct (m .state) e p r) es d in

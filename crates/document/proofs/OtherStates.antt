@@ -110,6 +110,7 @@ module _ (l : List ℕ) (m : Mode) (s : ℕ) (d : s ≡ m .state → ⊥) where
   behind c p t f Done y r h = tt
   behind c p t f (Refused a b) y r h = tt
 
+  -- a class that may stand in the mode's state and may follow in the other is not misplaced there
   not-misplaced : (c : ℕ) → Placed m c → (nextOf s c ≡ 0 → ⊥) → isMisplaced (inState s m) c ≡ false
   not-misplaced c p n = rw (ne-eqb c 0 (p .known), p .outside, ne-eqb (nextOf s c) 0 n)
 
