@@ -11,26 +11,13 @@ use Rattle.document.specs.declared.Step.the-variants.{Next, Done}
 use Rattle.document.specs.Elements.{Element, given}
 use Rattle.document.specs.Constructs.{stepOf}
 use Rattle.document.specs.Documents.{elementsOf, begin, firstStep, after, readFrom, documentOf}
-use Rattle.document.specs.Following.{FollowsSchema}
+use Rattle.document.specs.Following.{FollowsSchema, inState, SoundFrom, end, construct, Sound}
 use Rattle.document.proofs.Events.{stateAfter, ended}
 use Rattle.document.proofs.Runs.{read-step}
 use Rattle.document.proofs.Accepted.{accepted-holds}
 use Rattle.document.proofs.Schema.{follow, taken, ended-right, ended-class}
 use Rattle.document.proofs.Nesting.{matches-schema, schema-follows}
-use Rattle.document.proofs.OtherStates.{inState, Allows, other-state}
-
--- constructs up to the document's end, each taken in some state of the table: all but the schema's order is as it must be
-pub data SoundFrom (l : List ℕ) : Mode → List Element → Type 0 where
-  end : {m : Mode} (s : ℕ) → stepOf l (inState s m) ≡ Done → SoundFrom l m []
-  construct :
-      {m m′ : Mode} {es : List Element} (s : ℕ) (e : Event) → stepOf l (inState s m) ≡ Next m′ e → SoundFrom l m′ es
-      → SoundFrom l m (elementsOf l e ++ es)
-
--- a document whose constructs are sound, from what stands before the first of them on, and tell of elements
-pub record Sound (l : List ℕ) (es : List Element) : Type 0 where
-  pub at : ℕ
-  pub first : firstStep l ≡ Next (begin at) Silent
-  pub constructs : SoundFrom l (begin at) es
+use Rattle.document.proofs.OtherStates.{Allows, other-state}
 
 -- a state from which an event's element leads on allows it
 allowed :

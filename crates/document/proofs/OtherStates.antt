@@ -36,11 +36,8 @@ use Rattle.document.specs.declared.Step.{Step}
 use Rattle.document.specs.declared.Step.the-variants.{Next, Done, Refused}
 use Rattle.document.specs.Tags.{moved, maxInfos, afterPrefix, nameIn, ruled, textStep, enterStep, isMisplaced, openStep, emptyStep, otherStep, boundStep, alertStep, isAlert, startStep, closeStep, isRightEnd, endStep, endedStep, tagEndStep, tagStep}
 use Rattle.document.specs.Constructs.{commentStep, stopStep, constructStep, afterSpace, stepOf}
+use Rattle.document.specs.Following.{inState}
 use Rattle.document.proofs.Events.{stateAfter, Placed, placed, or-none, onward}
-
--- the mode in another state
-abbrev pub inState : ℕ → Mode → Mode
-inState s m = moved m (m .at) s (m .leaf)
 
 -- a state allows the element of an event
 abbrev pub Allows : ℕ → Event → Type 0
