@@ -8,7 +8,6 @@ use Rattle.text.specs.Answers.{Answer, gives, refuses, andThen, giving}
 use Rattle.text.specs.Logic.{by-test}
 use Rattle.sheet.specs.declared.Lasting.{Lasting}
 use Rattle.sheet.specs.declared.Parts.the-variants as parts
-use Rattle.sheet.specs.declared.Span.{Span}
 use Rattle.sheet.specs.declared.Found.{Found}
 use Rattle.document.specs.Elements.{Element, total}
 use Rattle.document.specs.Documents.{documentOf}

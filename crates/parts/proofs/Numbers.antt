@@ -10,7 +10,6 @@ use lib.IntN.{ℤ, natAbs, _-ℤ_}
 use Rattle.text.specs.Answers.{Answer, gives, refuses, andThen, giving}
 use Rattle.text.specs.Logic.{cond-cases}
 use Rattle.time.specs.Time.{timeOf}
-use Rattle.sheet.specs.declared.Lasting.{Lasting}
 use Rattle.sheet.specs.declared.Lasting.the-variants as lasting
 use Rattle.sheet.specs.declared.Span.{Span}
 use Rattle.sheet.specs.Reading.{spanIn}
@@ -22,8 +21,8 @@ use Rattle.document.specs.Documents.{documentOf}
 use Rattle.document.proofs.Numbers.{documentNumbers}
 use Rattle.document.proofs.Accepted.{refusal-numbers}
 use Rattle.parts.specs.Elements.{alertOf, partOf, lookUp, textSpan}
-use Rattle.parts.specs.Sheets.{startOf, between, lastsFrom, lastsOf, partFacts, sheetWith, partsOf, sheetOfPart, capSheet}
-use Rattle.parts.specs.Places.{Side, sideOf, anyShape, anyHolds, placedInPart, capPlace}
+use Rattle.parts.specs.Sheets.{startOf, between, lastsFrom, lastsOf, sheetWith, partsOf, sheetOfPart, capSheet}
+use Rattle.parts.specs.Places.{sideOf, anyShape, anyHolds, placedInPart, capPlace}
 
 -- the number is in the list, where an answer is refused
 abbrev Refused : {A : Type 0} → List ℕ → Answer A → Type 0

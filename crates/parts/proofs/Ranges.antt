@@ -10,7 +10,6 @@ use Rattle.text.specs.Logic.{cond-cases}
 use Rattle.text.specs.Answers.{Answer, gives, refuses}
 use Rattle.words.specs.Duration.{isLasting}
 use Rattle.time.specs.Time.{timeOf}
-use Rattle.sheet.specs.declared.Lasting.{Lasting}
 use Rattle.sheet.specs.declared.Lasting.the-variants as lasting
 use Rattle.sheet.specs.declared.CapFacts.{CapFacts}
 use Rattle.sheet.specs.declared.Span.{Span}

@@ -1,7 +1,6 @@
 -- What the sheet of a part says is what stands in the accepted document: for each class that is asked for, the one text there; and no stated time
 -- exactly where the part has no expires.
 use mathlib.Core.Path.{_≡_, refl, sym, ap, subst, _∙_}
-use mathlib.Core.Bool.{cond}
 use mathlib.Core.List.{List, []}
 use Prim.Native.Nat.{ℕ, _≤_}
 use native.Mathlib.Omega.{arith}
@@ -34,7 +33,7 @@ use Rattle.document.proofs.Sound.{Ruled, all-ruled}
 use Rattle.parts.specs.Elements.{alertOf, partOf, textSpan}
 use Rattle.parts.specs.Codes.{messageOf, statusOf, scopeOf, urgencyOf, severityOf, certaintyOf}
 use Rattle.parts.specs.Sheets.{startOf, between, lastsFrom, lastsOf, partFacts, factsOf, sheetWith, capSheet}
-use Rattle.parts.proofs.Standing.{many, AlertOnce, alert-once, PartOnce, part-once}
+use Rattle.parts.proofs.Standing.{many, alert-once, part-once}
 use Rattle.parts.proofs.Spans.{Text, every-both, said, said-is, said-ruled, said-none}
 use Rattle.parts.proofs.Coded.{message-said, status-said, scope-said, urgency-said, severity-said, certainty-said}
 use Rattle.parts.proofs.Drawn.{Given, drawn-holds}

@@ -11,7 +11,7 @@ use Rattle.text.specs.Logic.{by-test, and-left, and-right, below, below-both}
 use Rattle.coordinates.specs.declared.Place.{Place}
 use Rattle.coordinates.specs.Place.{inRange}
 use Rattle.schema.specs.Classes as class
-use Rattle.schema.specs.Sequences.{nextOf, containerOf, firstState, before, over, states, classes}
+use Rattle.schema.specs.Sequences.{nextOf, containerOf, firstState, states, classes}
 use Rattle.schema.proofs.Table.{inside}
 use Rattle.document.specs.Elements.{Element, opened, text, closed, isStart, total}
 use Rattle.document.specs.Documents.{documentOf}
