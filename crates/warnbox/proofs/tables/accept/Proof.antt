@@ -135,15 +135,17 @@ module _ {M : Type 1} (𝓤 : URA M) (H : Heap 𝓤) (A : Atoms 𝓤) (W : Given
       (receipts.Refused r) (why, tt) in
       switched ! (load ! (from ! (vrt ! refl (fld ! refl (stop !)))) (look-tag ! 9 (whole !))) (λ q′ then. (
         (λ z. absurd (clash (sym z))),
-        ((λ _.
-            sets ! 12 refl (of-opd ! (load ! (from ! (vrt ! refl (fld ! refl (stop !)))) (look-in ! 9 (in-variant ! 1 0 refl refl (whole !)))))
-            (typed 𝓤 H A W refusal r why .0) $
-            assigns-last ! (agg ! (and-then ! (lit ! tt) (and-then ! (local ! 12 refl) (no-more !)))) (from ! (stop !))
-            (init ! 15 refl (typed 𝓤 H A W receipt (receipts.Refused r) said .0)) $
-            forget ! 12 refl $
-            then _ (finish (Refused r) (receipts.Refused r) said xs refl
-            (answer-and-entries (refused-is xs item s refl n refl (Refused r) e r refl)))),
-        λ none. absurd (none .1 refl)),
+        (
+          (λ _.
+              sets ! 12 refl (of-opd ! (load ! (from ! (vrt ! refl (fld ! refl (stop !)))) (look-in ! 9 (in-variant ! 1 0 refl refl (whole !)))))
+              (typed 𝓤 H A W refusal r why .0) $
+              assigns-last ! (agg ! (and-then ! (lit ! tt) (and-then ! (local ! 12 refl) (no-more !)))) (from ! (stop !))
+              (init ! 15 refl (typed 𝓤 H A W receipt (receipts.Refused r) said .0)) $
+              forget ! 12 refl $
+              then _ (finish (Refused r) (receipts.Refused r) said xs refl
+              (answer-and-entries (refused-is xs item s refl n refl (Refused r) e r refl)))),
+          λ none. absurd (none .1 refl),
+        ),
       ))
 
 module _ {M : Type 1} (𝓤 : URA M) (H : Heap 𝓤) (A : Atoms 𝓤) (W : Given 𝓤 H A) (mem : Memory → SProp 𝓤) (run : Routine → Fun 𝓤) (𝓣 : Tables 𝓤 H)
