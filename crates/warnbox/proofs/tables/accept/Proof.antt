@@ -1,10 +1,10 @@
 -- `accept` meets its contract: a walk of its MIR, by hand. The slice is opened once, and its entries are lent for the call of `scan`. `decide` says
 -- what is stored and where, or why the packet is refused; in either case the slice is then closed.
 -- Assumes nothing.
-use Rattle.walks.proofs.Walk.{_≡_, refl, sym, ap, _∙_, _∷_, [], ℕ, _*_, _<_, List, length, set, URA, fullShare, named, w32, w64, Val, Fits, vint}
+use Rattle.walks.proofs.Walk.{_≡_, refl, sym, _∷_, [], ℕ, _*_, _<_, List, length, set, URA, fullShare, named, w32, w64, Val, Fits, vint}
 use Rattle.walks.proofs.Walk.{SProp, emp, id⊢, Memory, Routine, Heap, WpFn, Tables, Atoms}
 use Rattle.walks.proofs.Walk.{Fun, factI, givenOf, tables, tablesOf, Given, Item, ‵, _⊛_, _$_, _∵_, !, Go, Seq, runs, atRet, Env, qed, by, move, join}
-use Rattle.walks.proofs.Walk.{rewrite, whole, sub, look-in, agg, lit, bin, addr, of-opd, look, load, store-raw, assigns, assigns-last, forget}
+use Rattle.walks.proofs.Walk.{whole, sub, look-in, agg, lit, bin, addr, of-opd, look, load, store-raw, assigns, assigns-last, forget}
 use Rattle.walks.proofs.Walk.{from, fld, hop, stop, and-then, no-more, Is, now, sliceVal, owns, typesAt, flft, ftrue, Triple, Args, Vals, tripleOf}
 use Rattle.walks.proofs.Walk.{Meets, Lfts, entered, cited, Stays, stay-slice, goes-slice, walkOf, plain, u32, scaled-fits, RattleType}
 use Rattle.walks.proofs.Locals.{empty, holds, Blocks, Content, envOf, frame, enters, leaves}

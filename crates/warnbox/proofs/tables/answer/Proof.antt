@@ -7,7 +7,7 @@ use Rattle.walks.proofs.Walk.{Given, Item, ‵, _⊛_, _$_, _∵_, !, Go, Seq, 
 use Rattle.walks.proofs.Walk.{look-in, agg, lit, addr, of-opd, load, assigns-last, forget, from, fld, hop, stop, and-then, no-more, Is, now, sliceVal, owns}
 use Rattle.walks.proofs.Walk.{typesAt, flft, ftrue, fsep, Fml, Triple, Vals, tripleOf, Meets, entered, cited, Stays, gave-slice, goes-gave-slice, plain}
 use Rattle.walks.proofs.Walk.{walkOf, RattleType}
-use Rattle.walks.proofs.Locals.{empty, holds, Blocks, Content, envOf, frame, enters, leaves}
+use Rattle.walks.proofs.Locals.{empty, holds, Blocks, envOf, frame, enters, leaves}
 use Rattle.walks.proofs.Types.{mutable, typed}
 use Rattle.walks.proofs.Steps.{local, part, sets, lands-in}
 use Rattle.walks.proofs.Calls.{calls-some, beside}
