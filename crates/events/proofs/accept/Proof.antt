@@ -1,6 +1,5 @@
 -- `accept`: the plan is carried out; where it stores, its index is one of the entries.
 use mathlib.Core.Path.{_≡_, sym, _∙_}
-use Prim.Native.Nat.{_<_}
 use native.Mathlib.Omega.{arith}
 use lib.ListN.{length, length-map}
 use Rattle.events.proofs.Outcomes.{answer-and-entries, stored-is, refused-is, store-within}

@@ -1,10 +1,10 @@
 -- `accept` meets its contract: a walk of its MIR, by hand. The slice is opened once, and its entries are lent for the call of `scan`. `decide` says
 -- what is stored and where, or why the packet is refused; in either case the slice is then closed.
 -- Assumes nothing.
-use Rattle.walks.proofs.Walk.{_≡_, refl, sym, ap, _∙_, _∷_, [], ℕ, _*_, _<_, List, length, set, URA, fullShare, named, w32, w64, Val, Fits, vint}
+use Rattle.walks.proofs.Walk.{_≡_, refl, sym, _∷_, [], ℕ, _*_, _<_, List, length, set, URA, fullShare, named, w32, w64, Val, Fits, vint}
 use Rattle.walks.proofs.Walk.{SProp, emp, id⊢, Memory, Routine, Heap, WpFn, Tables, Atoms}
 use Rattle.walks.proofs.Walk.{Fun, factI, givenOf, tables, tablesOf, Given, Item, ‵, _⊛_, _$_, _∵_, !, Go, Seq, runs, atRet, Env, qed, by, move, join}
-use Rattle.walks.proofs.Walk.{rewrite, whole, sub, look-in, agg, lit, bin, addr, of-opd, look, load, store-raw, assigns, assigns-last, forget}
+use Rattle.walks.proofs.Walk.{whole, sub, look-in, agg, lit, bin, addr, of-opd, look, load, store-raw, assigns, assigns-last, forget}
 use Rattle.walks.proofs.Walk.{from, fld, hop, stop, and-then, no-more, Is, now, sliceVal, owns, typesAt, flft, ftrue, Triple, Args, Vals, tripleOf}
 use Rattle.walks.proofs.Walk.{Meets, Lfts, entered, cited, Stays, stay-slice, goes-slice, walkOf, plain, u32, scaled-fits, RattleType}
 use Rattle.walks.proofs.Locals.{empty, holds, Blocks, Content, envOf, frame, enters, leaves}
@@ -135,15 +135,17 @@ module _ {M : Type 1} (𝓤 : URA M) (H : Heap 𝓤) (A : Atoms 𝓤) (W : Given
       (receipts.Refused r) (why, tt) in
       switched ! (load ! (from ! (vrt ! refl (fld ! refl (stop !)))) (look-tag ! 9 (whole !))) (λ q′ then. (
         (λ z. absurd (clash (sym z))),
-        ((λ _.
-            sets ! 12 refl (of-opd ! (load ! (from ! (vrt ! refl (fld ! refl (stop !)))) (look-in ! 9 (in-variant ! 1 0 refl refl (whole !)))))
-            (typed 𝓤 H A W refusal r why .0) $
-            assigns-last ! (agg ! (and-then ! (lit ! tt) (and-then ! (local ! 12 refl) (no-more !)))) (from ! (stop !))
-            (init ! 15 refl (typed 𝓤 H A W receipt (receipts.Refused r) said .0)) $
-            forget ! 12 refl $
-            then _ (finish (Refused r) (receipts.Refused r) said xs refl
-            (answer-and-entries (refused-is xs item s refl n refl (Refused r) e r refl)))),
-        λ none. absurd (none .1 refl)),
+        (
+          (λ _.
+              sets ! 12 refl (of-opd ! (load ! (from ! (vrt ! refl (fld ! refl (stop !)))) (look-in ! 9 (in-variant ! 1 0 refl refl (whole !)))))
+              (typed 𝓤 H A W refusal r why .0) $
+              assigns-last ! (agg ! (and-then ! (lit ! tt) (and-then ! (local ! 12 refl) (no-more !)))) (from ! (stop !))
+              (init ! 15 refl (typed 𝓤 H A W receipt (receipts.Refused r) said .0)) $
+              forget ! 12 refl $
+              then _ (finish (Refused r) (receipts.Refused r) said xs refl
+              (answer-and-entries (refused-is xs item s refl n refl (Refused r) e r refl)))),
+          λ none. absurd (none .1 refl),
+        ),
       ))
 
 module _ {M : Type 1} (𝓤 : URA M) (H : Heap 𝓤) (A : Atoms 𝓤) (W : Given 𝓤 H A) (mem : Memory → SProp 𝓤) (run : Routine → Fun 𝓤) (𝓣 : Tables 𝓤 H)

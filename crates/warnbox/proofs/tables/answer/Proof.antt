@@ -7,7 +7,7 @@ use Rattle.walks.proofs.Walk.{Given, Item, ‵, _⊛_, _$_, _∵_, !, Go, Seq, 
 use Rattle.walks.proofs.Walk.{look-in, agg, lit, addr, of-opd, load, assigns-last, forget, from, fld, hop, stop, and-then, no-more, Is, now, sliceVal, owns}
 use Rattle.walks.proofs.Walk.{typesAt, flft, ftrue, fsep, Fml, Triple, Vals, tripleOf, Meets, entered, cited, Stays, gave-slice, goes-gave-slice, plain}
 use Rattle.walks.proofs.Walk.{walkOf, RattleType}
-use Rattle.walks.proofs.Locals.{empty, holds, Blocks, Content, envOf, frame, enters, leaves}
+use Rattle.walks.proofs.Locals.{empty, holds, Blocks, envOf, frame, enters, leaves}
 use Rattle.walks.proofs.Types.{mutable, typed}
 use Rattle.walks.proofs.Steps.{local, part, sets, lands-in}
 use Rattle.walks.proofs.Calls.{calls-some, beside}
@@ -121,16 +121,18 @@ module _ {M : Type 1} (𝓤 : URA M) (H : Heap 𝓤) (A : Atoms 𝓤) (W : Given
         (receipts.Refused r) (why, tt) in
         switched ! (load ! (from ! (vrt ! refl (fld ! refl (stop !)))) (look-tag ! 2 (whole !))) (λ q′ then. (
           (λ z. absurd (clash (sym z))),
-          ((λ _.
-              sets ! 5 refl (of-opd ! (load ! (from ! (vrt ! refl (fld ! refl (stop !)))) (look-in ! 2 (in-variant ! 1 0 refl refl (whole !)))))
-              (typed 𝓤 H A W refusal r why .0) $
-              assigns-last ! (agg ! (and-then ! (lit ! tt) (and-then ! (local ! 5 refl) (no-more !)))) (from ! (stop !))
-              (init ! 6 refl (typed 𝓤 H A W receipt (receipts.Refused r) said .0)) $
-              forget ! 5 refl $
-              move ! (19 ∷ []) $ fsplit ! $ move ! (1 ∷ []) $ drop ! $ given-up ! R (named 0) x (slice ∷ []) $
-              use0 W (‵ (nothings (others (answer.signature .params)))) (had 𝓤 H A W (others (answer.signature .params))) $ move ! (1 ∷ 0 ∷ []) $
-              fjoin ! $ move ! (19 ∷ []) $ then _ (finish (Refused r) (receipts.Refused r) said xs refl (refl, refl))),
-          λ none. absurd (none .1 refl)),
+          (
+            (λ _.
+                sets ! 5 refl (of-opd ! (load ! (from ! (vrt ! refl (fld ! refl (stop !)))) (look-in ! 2 (in-variant ! 1 0 refl refl (whole !)))))
+                (typed 𝓤 H A W refusal r why .0) $
+                assigns-last ! (agg ! (and-then ! (lit ! tt) (and-then ! (local ! 5 refl) (no-more !)))) (from ! (stop !))
+                (init ! 6 refl (typed 𝓤 H A W receipt (receipts.Refused r) said .0)) $
+                forget ! 5 refl $
+                move ! (19 ∷ []) $ fsplit ! $ move ! (1 ∷ []) $ drop ! $ given-up ! R (named 0) x (slice ∷ []) $
+                use0 W (‵ (nothings (others (answer.signature .params)))) (had 𝓤 H A W (others (answer.signature .params))) $ move ! (1 ∷ 0 ∷ []) $
+                fjoin ! $ move ! (19 ∷ []) $ then _ (finish (Refused r) (receipts.Refused r) said xs refl (refl, refl))),
+            λ none. absurd (none .1 refl),
+          ),
         ))
 
   meets : Meets 𝓤 H A answer.signature (WpFn 𝓤 H (𝓣 .C) (𝓣 .Λ) code.function) (answer.spec 𝓤 H A mem run)

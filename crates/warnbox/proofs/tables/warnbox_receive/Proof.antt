@@ -1,7 +1,7 @@
 -- `warnbox_receive` meets its contract: a walk of its MIR, by hand. `check` is called on the packet and the keys, then `answer` on the entries,
 -- which are given up to it for good, and `receipt_number` on the receipt.
 -- Assumes nothing.
-use Rattle.walks.proofs.Walk.{_≡_, refl, sym, ap, _∙_, _∷_, [], List, length, URA, named, w8, w64, Val, vint, vbool, SProp, emp, id⊢, Memory, Routine}
+use Rattle.walks.proofs.Walk.{_≡_, refl, ap, _∙_, _∷_, [], List, length, URA, named, w8, w64, Val, vint, vbool, SProp, emp, id⊢, Memory, Routine}
 use Rattle.walks.proofs.Walk.{Heap, WpFn, Tables, Atoms, Fun, factI, givenOf, tables, tablesOf}
 use Rattle.walks.proofs.Walk.{Given, ‵, _⊛_, _$_, _∵_, !, qed, by, use0, use1, move, keep, join, split, fsplit, fjoin, feqL, whole, sub, look-in, agg}
 use Rattle.walks.proofs.Walk.{addr, from, fld, hop, stop, and-then, no-more, nothing, now, sliceVal, owns, typesAt}
@@ -15,7 +15,6 @@ use Rattle.walks.proofs.Walked.{others, nothings, had, drops, all-drop, ends, m
 use Rattle.text.specs.Answers.{andThen}
 use Rattle.packet.specs.Packet.{packetOf}
 use Rattle.events.specs.declared.Entry.{Entry}
-use Rattle.events.specs.declared.checks.Checked.{Checked}
 use Rattle.events.specs.Table.{checked as rules, answered, receiptAnswer, answerNumber}
 use Rattle.events.specs.Steps.{checkedAnswer}
 use Rattle.events.proofs.Outcomes.{answer-and-entries, received-is}
