@@ -7,10 +7,9 @@ use Rattle.schema.specs.Sequences.{nextOf, before, over}
 use Rattle.document.specs.declared.Mode.{Mode}
 use Rattle.document.specs.declared.Event.{Event}
 use Rattle.document.specs.declared.Event.the-variants.{Silent, Opened, Text, Closed}
-use Rattle.document.specs.declared.Step.the-variants.{Next, Done}
 use Rattle.document.specs.Elements.{Element, given}
 use Rattle.document.specs.Constructs.{stepOf}
-use Rattle.document.specs.Documents.{elementsOf, begin, firstStep, after, readFrom, documentOf}
+use Rattle.document.specs.Documents.{elementsOf, after, readFrom, documentOf}
 use Rattle.document.specs.Following.{FollowsSchema, inState, SoundFrom, end, construct, Sound}
 use Rattle.document.proofs.Events.{stateAfter, ended}
 use Rattle.document.proofs.Runs.{read-step}

@@ -37,8 +37,20 @@ abbrev pub noSheet : Sheet
 noSheet =
     warn
     (record {
-      urgent = false; update = false; cancel = false; test = false;
-      event = 0; number = 0; origin = 0; lasting = 0; hazard = 0; kind = 0; urgency = 0; severity = 0; certainty = 0; response = 0;
+      urgent = false;
+      update = false;
+      cancel = false;
+      test = false;
+      event = 0;
+      number = 0;
+      origin = 0;
+      lasting = 0;
+      hazard = 0;
+      kind = 0;
+      urgency = 0;
+      severity = 0;
+      certainty = 0;
+      response = 0;
     })
 
 -- the sheet that was handed in with the text t; for numbers that stand for none, one that is refused with the same number, 23

@@ -1,22 +1,18 @@
 -- Bench samples of document 01 on numbers and durations, over the definitions.
 use mathlib.Core.Path.{_≡_, refl}
-use mathlib.Core.Bool.{true, false}
 use Rattle.text.specs.Ascii.{ascii}
 use Rattle.words.specs.Words.{dictionary, word, spaced, ones, belowHundred, belowThousand, group, numberCodes, said, words}
-use Rattle.words.specs.Duration.{isLasting, counted, durationCodes, lasting, duration}
+use Rattle.words.specs.Duration.{counted, durationCodes, lasting, duration}
 
 -- 1,015: one thousand fifteen; 0: zero
 pub sample-numbers : (words 1_015 ≡ ascii "one thousand fifteen") × (words 0 ≡ ascii "zero")
 unfolding dictionary word spaced ones belowHundred belowThousand group numberCodes said words
 sample-numbers = (refl, refl)
 
--- 31,536,000 s: three hundred sixty five days; 31,536,001: refusal 7
-pub sample-year :
-    (duration 31_536_000 ≡ ascii "three hundred sixty five days")
-    × (isLasting 31_536_000 ≡ true)
-    × (isLasting 31_536_001 ≡ false)
+-- 31,536,000 s: three hundred sixty five days
+pub sample-year : duration 31_536_000 ≡ ascii "three hundred sixty five days"
 unfolding dictionary word spaced ones belowHundred belowThousand group numberCodes counted durationCodes lasting duration
-sample-year = (refl, refl, refl)
+sample-year = refl
 
 -- fifteen minutes
 pub sample-quarter : duration 900 ≡ ascii "fifteen minutes"

@@ -27,7 +27,6 @@ use Rattle.warnbox.proofs.tables.warnbox_sweep.Key.{name as #sweep}
 use Rattle.warnbox.proofs.tables.warnbox_sweep as sweep
 use Rattle.warnbox.proofs.tables.warnbox_sweep.Statement as stated
 use Rattle.warnbox.proofs.tables.warnbox_sweep.Code as code
-use Rattle.warnbox.proofs.tables.warnbox_sweep.Code.Mir as text
 
 abbrev R : RattleType
 R = T.the-row
