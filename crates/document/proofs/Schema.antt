@@ -1,16 +1,15 @@
--- The elements of an accepted document follow the schema: the alert's start, identifier and sender first, one alert, and at most 16 infos.
-use mathlib.Core.Path.{_≡_, refl, sym, ap, subst, _∙_}
+-- The elements of an accepted document follow the table of what may follow, from its first state to its last; and there are at most 16 infos.
+use mathlib.Core.Path.{_≡_, refl, sym, ap, _∙_}
 use mathlib.Core.Bool.{cond}
 use mathlib.Core.List.{List, [], _∷_, _++_}
-use Prim.Native.Nat.{ℕ, _+_, _≤_, _<_}
+use Prim.Native.Nat.{ℕ, _+_, _≤_}
 use native.Mathlib.Omega.{arith}
 use borrow.Author.Tests.{eqb-true, eq-eqb}
 use lib.Dec.{eqb, ltb}
 use Rattle.text.specs.Logic.{by-test}
 use Rattle.text.specs.Answers.{gives}
 use Rattle.schema.specs.Classes as class
-use Rattle.schema.specs.Sequences.{nextOf, containerOf, firstState, before, over, classes}
-use Rattle.schema.proofs.Alerts.{alert-before, never-before, Only, only-alert, only-identifier, only-sender}
+use Rattle.schema.specs.Sequences.{nextOf, containerOf, before, over, classes}
 use Rattle.document.specs.declared.Mode.{Mode}
 use Rattle.document.specs.declared.Event.{Event}
 use Rattle.document.specs.declared.Event.the-variants.{Silent, Opened, Text, Closed}
@@ -21,8 +20,7 @@ use Rattle.document.specs.Constructs.{stepOf}
 use Rattle.document.specs.Documents.{elementsOf, documentOf}
 use Rattle.document.proofs.Events.{stateAfter, SoundEvent, onward, ended}
 use Rattle.document.proofs.Loops.{starts-append}
-use Rattle.document.proofs.Accepted.{Every, accepted-holds}
-use Rattle.document.proofs.Sound.{Sorted, all-sorted}
+use Rattle.document.proofs.Accepted.{accepted-holds}
 
 -- ---- the table along the elements
 
@@ -79,71 +77,6 @@ ended-right state c es h = by-test (eqb c (containerOf state)) (λ e. rw e at h)
 pub ended-class :
     (s c : ℕ) (es : List Element) → cond (eqb c (containerOf s)) (follow (nextOf s 0) es) 0 ≡ over → c ≡ containerOf s
 ended-class s c es h = by-test (eqb c (containerOf s)) (eqb-true c (containerOf s)) (λ e. absurd (omega (arith, rw e at h)))
-
--- ---- the first elements
-
-module _ (P : List Element → Type 0) where
-  -- what holds of a text of the class and any elements that go on from it
-  leaf-first :
-      (state d next : ℕ) → Only state d next → class.lastContainer < d → (state ≡ over → ⊥)
-      → ((p : ℕ) (t : List ℕ) (xs : List Element) → Every Sorted xs → follow next xs ≡ over → P (text d p t ∷ xs))
-      → (es : List Element) → Every Sorted es → follow state es ≡ over → P es
-  unfolding follow
-  leaf-first state d next only b n f [] s h = absurd (n h)
-  leaf-first state d next only b n f (opened c p ∷ es) s h = absurd (omega (arith, only c (taken (nextOf state c) es h) .0, s .0 .1))
-  leaf-first state d next only b n f (text c p t ∷ es) s h =
-      let o = only c (taken (nextOf state c) es h) in
-      subst (λ (k : ℕ). P (text k p t ∷ es)) (sym (o .0)) (f p t es (s .1) (ap (λ (r : ℕ). follow r es) (sym (o .1)) ∙ h))
-  leaf-first state d next only b n f (closed c ∷ es) s h =
-      absurd (omega (arith, only 0 (taken (nextOf state 0) es (ended-right state c es h)) .0))
-
-  alert-first :
-      ((p : ℕ) (xs : List Element) → Every Sorted xs → follow (firstState class.alert) xs ≡ over → P (opened class.alert p ∷ xs))
-      → (es : List Element) → Every Sorted es → follow before es ≡ over → P es
-  unfolding follow
-  alert-first f [] s h = absurd (omega (arith, h))
-  alert-first f (opened c p ∷ es) s h =
-      let o = only-alert c (taken (nextOf before c) es h) in
-      subst (λ (k : ℕ). P (opened k p ∷ es)) (sym (o .0)) (f p es (s .1) (ap (λ (r : ℕ). follow r es) (sym (o .1)) ∙ h))
-  alert-first f (text c p t ∷ es) s h = absurd (omega (arith, only-alert c (taken (nextOf before c) es h) .0, s .0))
-  alert-first f (closed c ∷ es) s h = absurd (omega (arith, only-alert 0 (taken (nextOf before 0) es (ended-right before c es h)) .0))
-
--- what holds of any elements that begin with the alert's start, the identifier and the sender holds of those of an accepted document
-pub first-elements :
-    (P : List Element → Type 0)
-    → ((p q r : ℕ) (t u : List ℕ) (xs : List Element) → P (opened class.alert p ∷ text class.identifier q t ∷ text class.sender r u ∷ xs))
-    → (l : List ℕ) (es : List Element) → documentOf l ≡ gives es → P es
-first-elements P f l es d =
-    alert-first P
-    (λ p.
-    leaf-first (λ (xs : List Element). P (opened class.alert p ∷ xs)) (firstState class.alert) class.identifier (firstState class.alert + 1)
-    only-identifier (omega arith) (λ e. omega (arith, e))
-    (λ q t.
-    leaf-first (λ (xs : List Element). P (opened class.alert p ∷ text class.identifier q t ∷ xs))
-    (firstState class.alert + 1) class.sender (firstState class.alert + 2)
-    only-sender (omega arith) (λ e. omega (arith, e))
-    (λ r u xs s h. f p q r t u xs)))
-    es (all-sorted l es d) (follows-schema l es d)
-
--- ---- one alert
-
--- after the alert's start no other follows
-no-alert : (state : ℕ) (es : List Element) → (state ≡ before → ⊥) → follow state es ≡ over → starts class.alert es ≡ 0
-unfolding follow starts
-no-alert state [] n h = refl
-no-alert state (opened c p ∷ es) n h =
-    by-test (eqb c class.alert)
-    (λ e. absurd (n (alert-before state (rw (eqb-true c class.alert e) at (taken (nextOf state c) es h)))))
-    (λ e. rw e (omega (arith, no-alert (nextOf state c) es (never-before state c) h)))
-no-alert state (text c p t ∷ es) n h = omega (arith, no-alert (nextOf state c) es (never-before state c) h)
-no-alert state (closed c ∷ es) n h = omega (arith, no-alert (nextOf state 0) es (never-before state 0) (ended-right state c es h))
-
-pub one-alert : (l : List ℕ) (es : List Element) → documentOf l ≡ gives es → starts class.alert es ≡ 1
-unfolding starts
-one-alert l es d =
-    alert-first (λ (xs : List Element). starts class.alert xs ≡ 1)
-    (λ p xs s h. omega (arith, no-alert (firstState class.alert) xs (λ e. omega (arith, e)) h))
-    es (all-sorted l es d) (follows-schema l es d)
 
 -- ---- "a 17th info"
 

@@ -5,7 +5,7 @@ use mathlib.Core.List.{List}
 use Prim.Native.Nat.{ℕ, _<_}
 use borrow.Author.Tests.{ltb-true}
 use lib.Dec.{ltb}
-use lib.ListN.{length, getD, set, length-set}
+use lib.ListN.{length, getD, set}
 use Rattle.text.specs.Logic.{cond-cases, clash}
 use Rattle.text.specs.Answers.{gives, refuses, andThen}
 use Rattle.packet.specs.Packet.{packetOf}
@@ -89,8 +89,3 @@ module _ (es : List Entry) (p keys : List ℕ) (verdict : Bool) (clock : ℕ) (c
 
   pub received-refused : (r : Refusal) → c ≡ passed.Refused r → outcome (refuses (refusalNumber r) 0) es ≡ received es p keys verdict clock
   received-refused r q = ap (λ (x : Checked). answered es (checkedAnswer x)) (sym q) ∙ received-is
-
--- the table keeps its number of entries
-pub carried-length : (p : Plan) (es : List Entry) → length (carriedOut p es .entries) ≡ length es
-carried-length (Store i x) es = length-set es i x
-carried-length (Refused r) es = refl

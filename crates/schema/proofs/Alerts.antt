@@ -1,10 +1,10 @@
 -- Where the alert stands and how it begins: rules of a state, a class and the next state, each tested once over all states and classes.
 use mathlib.Core.Path.{_≡_, refl, sym}
 use mathlib.Core.Bool.{Bool, true, not, _&&_, _||_}
-use Prim.Native.Nat.{ℕ, _+_, _<_}
+use Prim.Native.Nat.{ℕ, _<_}
 use native.Mathlib.Omega.{arith}
 use lib.Dec.{T, eqb, ltb}
-use borrow.Author.Tests.{eqb-true, eqb-false, not-true, ltb-true, ltb-false, eq-eqb, ne-eqb}
+use borrow.Author.Tests.{eqb-true, ltb-true, ltb-false, eq-eqb, ne-eqb}
 use Rattle.text.specs.Logic.{by-test, and-left, and-right, below, below-at, below-both}
 use Rattle.schema.specs.Classes as class
 use Rattle.schema.specs.Sequences.{before, over, firstState, states, classes, containerOf, nextOf}
@@ -32,18 +32,10 @@ rule f t s c n = let i = inside s c n in next-rule nextOf f t s c (i .0) (i .1) 
 abbrev alert-rule : ℕ → ℕ → ℕ → Bool
 alert-rule s c e = not (eqb c class.alert) || eqb s before
 
-abbrev later-rule : ℕ → ℕ → ℕ → Bool
-later-rule s c e = not (eqb e before)
-
 -- the alert starts in the first state only
 pub alert-before : (s : ℕ) → (nextOf s class.alert ≡ 0 → ⊥) → s ≡ before
 unfolding nextOf containerOf
 alert-before s h = eqb-true s before (rule alert-rule tt s class.alert h)
-
--- nothing leads back there
-pub never-before : (s c : ℕ) → nextOf s c ≡ before → ⊥
-unfolding nextOf containerOf
-never-before s c e = eqb-false (nextOf s c) before (not-true _ (rule later-rule tt s c (λ z. omega (arith, e, z)))) e
 
 -- after the alert nothing may stand
 pub over-none : (c : ℕ) → nextOf over c ≡ 0
@@ -69,11 +61,3 @@ only-one state d next t c h =
 pub only-alert : Only before class.alert (firstState class.alert)
 unfolding nextOf containerOf
 only-alert = only-one before class.alert (firstState class.alert) tt
-
-pub only-identifier : Only (firstState class.alert) class.identifier (firstState class.alert + 1)
-unfolding nextOf containerOf
-only-identifier = only-one (firstState class.alert) class.identifier (firstState class.alert + 1) tt
-
-pub only-sender : Only (firstState class.alert + 1) class.sender (firstState class.alert + 2)
-unfolding nextOf containerOf
-only-sender = only-one (firstState class.alert + 1) class.sender (firstState class.alert + 2) tt

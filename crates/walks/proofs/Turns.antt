@@ -76,14 +76,6 @@ module _ {M : Type 1} {𝓤 : URA M} {H : Heap 𝓤} {A : Atoms 𝓤} {K : Type 
       → Seq K W Γ (runs C Λ E (seq (cond c skip (exit n)) b) q)
   tests t o k l = first t $ branches t o (λ h. skips t $ record { prf = k h .prf }) (λ h. jumps t $ l h)
 
-  -- code that runs where a test holds, and then what follows; it is shown for any q′ that what follows meets
-  pub when : K → {C : Calls 𝓤 H} {Λ : Loops 𝓤 H} {Γ : List (Item 𝓤)} {c : Operand} {b rest : Body} {y : Bool} → Opd K W Γ E c (vbool y)
-      → (T y → (q′ : Post 𝓤 H) → ((Δ : List (Item 𝓤)) → Seq K W Δ (runs C Λ E rest q) → Seq K W Δ (prop (post 𝓤 H q′ next)))
-      → Seq K W Γ (runs C Λ E b q′)) → (T (not y) → Seq K W Γ (runs C Λ E rest q))
-      → Seq K W Γ (runs C Λ E (seq (cond c b skip) rest) q)
-  when t {C} {Λ} {rest = rest} o k l = first t $ branches t o (λ h. k h (anyQ (afterSeq 𝓤 H (Wp 𝓤 H C Λ E rest (post 𝓤 H q)) (post 𝓤 H q)))
-      (λ Δ s. record { prf = s .prf })) (λ h. skips t $ record { prf = l h .prf })
-
   -- a switch, and then what follows; each arm is shown for any q′ that what follows meets
   pub switched : K → {C : Calls 𝓤 H} {Λ : Loops 𝓤 H} {Γ : List (Item 𝓤)} {c : Operand} {arms : Arms} {rest : Body} {w : Width} {x : ℕ}
       → Opd K W Γ E c (vint w x)
