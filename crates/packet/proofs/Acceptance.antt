@@ -77,7 +77,7 @@ accepts p f a =
       a .lasts,
     )
 
--- ---- refusals: "for packets 1 to 7", at 0
+-- ---- refusals: a packet's own have the numbers 1 to 7; "All others carry 0."
 
 abbrev Refusal : Answer Fields → Type 0
 Refusal a = (n at : ℕ) → a ≡ refuses n at → (1 ≤ n) × (n ≤ 7) × (at ≡ 0)
