@@ -2,11 +2,3 @@ pub mod Lookups
 pub mod Keeping
 pub mod Meant
 pub mod Durations
-pub mod Standing
-pub mod Spans
-pub mod Coded
-pub mod Drawn
-pub mod Says
-pub mod Shapeless
-pub mod Numbers
-pub mod Ranges

@@ -36,7 +36,7 @@ lookupAnswer Missing = refuses 21 0
 abbrev pub spanOf : ℕ → List ℕ → Span
 spanOf p t = record { start = p; len = length t }
 
--- where the last text of a class stands; each class that is asked for stands once at most (proofs/Standing.antt)
+-- where the last text of a class stands; each class that is asked for stands once at most (drawn/proofs/Standing.antt)
 abbrev pub later : ℕ → Span → Element → Span
 later c s (opened d p) = s
 later c s (text d p t) = cond (eqb d c) (spanOf p t) s

@@ -29,7 +29,7 @@ use Rattle.parts.specs.Codes.{messageOf, statusOf, scopeOf, urgencyOf, s
 
 -- ---- "A CAP part lasts from effective (else sent) to expires, or without expires "lasts no stated time""
 
--- the time from which a part lasts. A text that says no time is one that doesn't stand there (proofs/Says.antt: times-say, sheet-says)
+-- the time from which a part lasts. A text that says no time is one that doesn't stand there (drawn/proofs/Says.antt: times-say, sheet-says)
 abbrev pub startOf : (effective sent : Answer ℤ) → Answer ℤ
 startOf (gives i) sent = gives i
 startOf (refuses n p) sent = sent

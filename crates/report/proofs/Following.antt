@@ -13,7 +13,7 @@ use Rattle.sheet.specs.declared.Found.{Found}
 use Rattle.sheet.specs.Reading.{sheetIn}
 use Rattle.sheet.proofs.Lengths.{sentence-le}
 use Rattle.parts.specs.Sheets.{capSheet}
-use Rattle.parts.proofs.Ranges.{drawn-in-range}
+use Rattle.drawn.proofs.Ranges.{drawn-in-range}
 use Rattle.sheet.specs.Sentence.{longest}
 use Rattle.report.specs.Lines.{lineThen, linesFrom}
 use Rattle.report.specs.PartLine.{lineAt, isSentence}

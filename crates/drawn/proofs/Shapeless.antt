@@ -17,9 +17,9 @@ use Rattle.document.specs.Elements.{Element, opened, text, closed, isStart, tot
 use Rattle.document.specs.Documents.{documentOf}
 use Rattle.document.proofs.Accepted.{Every}
 use Rattle.document.proofs.Sound.{Sorted}
 use Rattle.parts.specs.Elements.{alertOf, lookUp}
 use Rattle.parts.specs.Places.{isShape, shapeHolds, anyText, anyShape, anyHolds, noShape, capPlace}
-use Rattle.parts.proofs.Standing.{classOf, in-alert}
+use Rattle.drawn.proofs.Standing.{classOf, in-alert}
 
 abbrev NoShape : Element → Type 0
 NoShape (opened c p) = Prim.Unit

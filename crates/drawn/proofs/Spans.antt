@@ -25,8 +25,8 @@ use Rattle.document.specs.Elements.{Element, opened, text, closed, isStart, fol
 use Rattle.document.specs.Documents.{documentOf}
 use Rattle.document.proofs.Accepted.{Every}
 use Rattle.document.proofs.Sound.{Ruled, all-ruled, Shown, all-shown, Clean, all-hold, whole-shown, whole-clean}
 use Rattle.parts.specs.Elements.{within, alertOf, partOf, spanOf, later, nowhere, textSpan}
-use Rattle.parts.proofs.Standing.{many, alert-once}
+use Rattle.drawn.proofs.Standing.{many, alert-once}
 
 -- ---- no "]]>" in a text without a fault
 

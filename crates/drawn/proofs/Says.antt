@@ -30,13 +30,13 @@ use Rattle.document.specs.Elements.{Element, opened, text, closed, total}
 use Rattle.document.specs.Documents.{documentOf}
 use Rattle.document.proofs.Accepted.{Every}
 use Rattle.document.proofs.Sound.{Ruled, all-ruled}
 use Rattle.parts.specs.Elements.{alertOf, partOf, textSpan}
 use Rattle.parts.specs.Codes.{messageOf, statusOf, scopeOf, urgencyOf, severityOf, certaintyOf}
 use Rattle.parts.specs.Sheets.{startOf, between, lastsFrom, lastsOf, partFacts, factsOf, sheetWith, capSheet}
-use Rattle.parts.proofs.Standing.{many, alert-once, part-once}
-use Rattle.parts.proofs.Spans.{Text, every-both, said, said-is, said-ruled, said-none}
-use Rattle.parts.proofs.Coded.{message-said, status-said, scope-said, urgency-said, severity-said, certainty-said}
-use Rattle.parts.proofs.Drawn.{Given, drawn-holds}
+use Rattle.drawn.proofs.Standing.{many, alert-once, part-once}
+use Rattle.drawn.proofs.Spans.{Text, every-both, said, said-is, said-ruled, said-none}
+use Rattle.drawn.proofs.Coded.{message-said, status-said, scope-said, urgency-said, severity-said, certainty-said}
+use Rattle.drawn.proofs.Drawn.{Given, drawn-holds}
 
 -- ---- the statement
 

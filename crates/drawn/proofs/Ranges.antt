@@ -20,10 +20,10 @@ use Rattle.sheet.specs.Reading.{spanIn, sheetIn}
 use Rattle.schema.specs.Classes as class
 use Rattle.document.specs.Elements.{total}
 use Rattle.document.proofs.Schema.{parts-limit}
 use Rattle.parts.specs.Elements.{alertOf, partOf, textSpan}
 use Rattle.parts.specs.Sheets.{startOf, between, lastsFrom, lastsOf, capSheet}
-use Rattle.parts.proofs.Drawn.{Given, drawn-holds}
-use Rattle.parts.proofs.Spans.{NameIn, name-in, sender-in}
+use Rattle.drawn.proofs.Drawn.{Given, drawn-holds}
+use Rattle.drawn.proofs.Spans.{NameIn, name-in, sender-in}
 
 -- ---- the lasting time
 
