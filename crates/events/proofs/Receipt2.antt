@@ -10,7 +10,7 @@ use lib.Dec.{ltb}
 use lib.ListN.{length, getD, set, length-set}
 use lib.Seq.{getD-set-same, getD-set-other}
 use Rattle.text.specs.Logic.{by-test, cond-cases, clash}
-use Rattle.text.specs.Answers.{Answer, gives, refuses, andThen}
+use Rattle.text.specs.Answers.{Answer, gives, refuses, andThen, answerNumber}
 use Rattle.packet.specs.declared.Fields.{Fields}
 use Rattle.packet.specs.Packet.{packetOf}
 use Rattle.packet.proofs.Acceptance.{refusal-numbers}
@@ -18,7 +18,7 @@ use Rattle.packet.proofs.Widths.{sequence-lt}
 use Rattle.events.specs.declared.Entry.{Entry}
 use Rattle.events.specs.declared.New.{New as Item}
 use Rattle.events.specs.declared.Receipt.{Receipt}
-use Rattle.events.specs.Table.{blank, isOf, isFree, indexOf, freeIndex, newOf, renewed, fresh, Outcome, outcome, again, anew, tableOutcome, isClockOutOfRange, isListed, checked, answered, received, receiptAnswer, answerNumber}
+use Rattle.events.specs.Table.{blank, isOf, isFree, indexOf, freeIndex, newOf, renewed, fresh, Outcome, outcome, again, anew, tableOutcome, isClockOutOfRange, isListed, checked, answered, received, receiptAnswer}
 use Rattle.events.specs.Demand2.{OnlyAt, FirstAt, NoneOf, Call, Passes, Known, New, Stored, inEntry, inFree, Demand2, answerOf}
 use Rattle.events.proofs.Search.{index-is, index-none, first-at, none-of}
 use Rattle.events.proofs.Sweeping.{swept-none, swept-free}

@@ -137,11 +137,6 @@ abbrev pub receiptAnswer : Receipt → Answer Prim.Unit
 receiptAnswer Accepted = gives tt
 receiptAnswer (Refused r) = refuses (refusalNumber r) 0
 
--- the answer as a number: 0 is acceptance
-abbrev pub answerNumber : Answer Prim.Unit → ℕ
-answerNumber (gives u) = 0
-answerNumber (refuses n at) = n
-
 -- ---- "Sweeping at a time frees exactly the used entries whose keep-until is below it, touching only their used mark."
 
 abbrev pub isStale : ℕ → Entry → Bool

@@ -1,7 +1,8 @@
 // The event table: which packets are accepted, and what the table then holds.
 use packet::Fault;
 ghost use mathlib.Core.Path.{_≡_};
-ghost use Rattle.events.specs.Table.{positionOf, tableOutcome, received, refusalNumber, receiptAnswer, answerNumber, sweptAll};
+ghost use Rattle.text.specs.Answers.{answerNumber};
+ghost use Rattle.events.specs.Table.{positionOf, tableOutcome, received, refusalNumber, receiptAnswer, sweptAll};
 ghost use Rattle.events.specs.Steps.{scanned};
 
 pub mod checks;

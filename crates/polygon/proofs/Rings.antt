@@ -12,7 +12,7 @@ use lib.ListN.{length, drop}
 use mir.Val.{boolByte}
 use types.Run.{OneOf}
 use denote.Enum.Declared.{tagOf}
-use Rattle.text.specs.Answers.{Answer, gives, refuses, andThen, giving}
+use Rattle.text.specs.Answers.{Answer, gives, refuses, andThen, giving, isGiven}
 use Rattle.text.specs.Logic.{by-test, cond-cases, or-false, or-assoc}
 use Rattle.text.specs.Tokens.{tokens}
 use Rattle.coordinates.specs.declared.Place.{Place}
@@ -21,7 +21,7 @@ use Rattle.coordinates.proofs.Readers.{pair-cases}
 use Rattle.polygon.specs.declared.edges.Tally.{Tally}
 use Rattle.polygon.specs.declared.pairs.Next.{Next}
 use Rattle.polygon.specs.declared.pairs.Next.the-variants as next
-use Rattle.polygon.specs.Polygon.{placesOf, samePlace, lastOf, isClosed, isRing, polygonOf, given, isPolygon, crosses, onRing, crossings, inRing}
+use Rattle.polygon.specs.Polygon.{placesOf, samePlace, lastOf, isClosed, isRing, polygonOf, isPolygon, crosses, onRing, crossings, inRing}
 use Rattle.polygon.specs.Edges.{edgeOf, plusOf, tallied}
 use Rattle.polygon.specs.Next.{nextOf}
 use Rattle.polygon.specs.Ring.{closes, verdictOf, answerOf}
@@ -175,10 +175,10 @@ module _ (p : Place) (l : List ℕ) where
 -- ---- whether there is a polygon
 
 -- from any answer for it
-pub answer-given : (l : List ℕ) (f : List Place → Bool) {o : Answer Bool} → o ≡ giving f (polygonOf l) → given o ≡ isPolygon l
-answer-given l f e = ap given e ∙ go (polygonOf l)
+pub answer-given : (l : List ℕ) (f : List Place → Bool) {o : Answer Bool} → o ≡ giving f (polygonOf l) → isGiven o ≡ isPolygon l
+answer-given l f e = ap isGiven e ∙ go (polygonOf l)
   where
-    go : (a : Answer (List Place)) → given (giving f a) ≡ given a
+    go : (a : Answer (List Place)) → isGiven (giving f a) ≡ isGiven a
     go (gives ring) = refl
     go (refuses n i) = refl
 

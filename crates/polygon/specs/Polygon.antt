@@ -1,5 +1,5 @@
 -- Polygons (document 01, "Is the studio inside"): their texts, and whether a place lies inside, on the flat grid of latitude and longitude, exact.
-use mathlib.Core.Bool.{Bool, true, false, cond, _&&_, _||_}
+use mathlib.Core.Bool.{Bool, false, cond, _&&_, _||_}
 use mathlib.Core.List.{List, [], _∷_}
 use Prim.Native.Nat.{ℕ, _+_, _%_}
 use lib.Dec.{eqb, leb}
@@ -7,7 +7,7 @@ use lib.IntN.{ℤ, _-ℤ_, _*ℤ_}
 use lib.Signed.{ltZ, leZ}
 use lib.ListN.{length}
 use mir.Val.{boolByte}
-use Rattle.text.specs.Answers.{Answer, gives, refuses, andThen, giving}
+use Rattle.text.specs.Answers.{Answer, gives, refuses, andThen, giving, isGiven}
 use Rattle.text.specs.Tokens.{tokens}
 use Rattle.coordinates.specs.declared.Place.{Place}
 use Rattle.coordinates.specs.Place.{pairOf}
@@ -42,12 +42,8 @@ isRing l = leb 4 (length l) && isClosed l
 unfoldable pub polygonOf : List ℕ → Answer (List Place)
 polygonOf l = andThen (placesOf (tokens l)) (λ ring. cond (isRing ring) (gives ring) (refuses 22 0))
 
-abbrev pub given : {A : Type 0} → Answer A → Bool
-given (gives x) = true
-given (refuses n i) = false
-
 abbrev pub isPolygon : List ℕ → Bool
-isPolygon l = given (polygonOf l)
+isPolygon l = isGiven (polygonOf l)
 
 -- ---- an edge from a to b, and a place p
 

@@ -8,14 +8,14 @@ use lib.Dec.{eqb, leb, ltb}
 use lib.IntN.{ℤ}
 use lib.ListN.{length}
 use borrow.Author.Tests.{leb-true, ltb-false, eqb-false}
-use Rattle.text.specs.Answers.{gives}
+use Rattle.text.specs.Answers.{gives, answerNumber}
 use Rattle.text.specs.Logic.{and-left, and-right, first-arm, second-arm}
 use Rattle.time.specs.Time.{timeOf}
 use Rattle.time.proofs.Answer.{time-cases}
 use Rattle.sheet.specs.Sheet.{allNameBytes}
 use Rattle.schema.specs.Classes as class
 use Rattle.rules.specs.Codes.{codeOf}
-use Rattle.rules.specs.Texts.{nameRule, codeRule, numberOf, timeRule, textRule}
+use Rattle.rules.specs.Texts.{nameRule, codeRule, timeRule, textRule}
 
 -- a name has 1 to 128 bytes, all of them allowed
 pub name-kept : (t : List ℕ) → nameRule t ≡ 0 → (1 ≤ length t) × ((length t ≤ 128) × (allNameBytes t ≡ true))
@@ -35,7 +35,7 @@ code-kept c t e = eqb-false (codeOf c t) 0 (second-arm _ _ 0 (eqb (codeOf c t) 0
 -- a time names an instant
 pub time-kept : (t : List ℕ) → timeRule t ≡ 0 → (i : ℤ) × (timeOf t ≡ gives i)
 unfolding timeRule
-time-kept t = time-cases t (λ a. numberOf a ≡ 0 → (i : ℤ) × (a ≡ gives i)) (λ i e. (i, refl)) (λ e. absurd (omega (arith, e)))
+time-kept t = time-cases t (λ a. answerNumber a ≡ 0 → (i : ℤ) × (a ≡ gives i)) (λ i e. (i, refl)) (λ e. absurd (omega (arith, e)))
 
 pub identifier-rule : (t : List ℕ) → textRule class.identifier t ≡ nameRule t
 unfolding textRule

@@ -6,22 +6,23 @@ use Prim.Native.Nat.{ℕ}
 use lib.Dec.{eqb, leb, ltb}
 use lib.ListN.{length}
 use types.Run.{OneOf, hit}
+use Rattle.text.specs.Answers.{answerNumber, isGiven}
 use Rattle.text.specs.Logic.{cond-cases, clash}
 use Rattle.time.proofs.Answer.{time-cases}
 use Rattle.sheet.specs.Sheet.{allNameBytes}
-use Rattle.polygon.specs.Polygon.{given, polygonOf, isPolygon}
+use Rattle.polygon.specs.Polygon.{polygonOf, isPolygon}
 use Rattle.polygon.proofs.Rings.{polygon-cases}
 use Rattle.circle.proofs.Texts.{circle-cases}
 use Rattle.schema.specs.Classes as class
 use Rattle.rules.specs.Codes.{codeOf, hasCodes}
-use Rattle.rules.specs.Texts.{nameRule, codeRule, numberOf, timeRule, polygonRule, circleRule, isTime, textRule}
+use Rattle.rules.specs.Texts.{nameRule, codeRule, timeRule, polygonRule, circleRule, isTime, textRule}
 
 -- a polygon's text, by the test for it
-pub polygon-kept : (t : List ℕ) → isPolygon t ≡ true → 0 ≡ numberOf (polygonOf t)
-polygon-kept t = polygon-cases t (λ a. given a ≡ true → 0 ≡ numberOf a) (λ ring e. refl) (λ e. absurd (false≢true e))
+pub polygon-kept : (t : List ℕ) → isPolygon t ≡ true → 0 ≡ answerNumber (polygonOf t)
+polygon-kept t = polygon-cases t (λ a. isGiven a ≡ true → 0 ≡ answerNumber a) (λ ring e. refl) (λ e. absurd (false≢true e))
 
-pub polygon-broken : (t : List ℕ) → isPolygon t ≡ false → 22 ≡ numberOf (polygonOf t)
-polygon-broken t = polygon-cases t (λ a. given a ≡ false → 22 ≡ numberOf a) (λ ring e. clash (cc)) (λ e. refl)
+pub polygon-broken : (t : List ℕ) → isPolygon t ≡ false → 22 ≡ answerNumber (polygonOf t)
+polygon-broken t = polygon-cases t (λ a. isGiven a ≡ false → 22 ≡ answerNumber a) (λ ring e. clash (cc)) (λ e. refl)
 
 -- 0, for a text that keeps to its rule, and the refusals of texts
 abbrev pub ruleNumbers : List ℕ
@@ -45,15 +46,15 @@ code-number c t = cond-cases Listed (eqb (codeOf c t) 0) 17 0 (λ e. hit ruleNum
 
 time-number : (t : List ℕ) → Listed (timeRule t)
 unfolding timeRule
-time-number t = time-cases t (λ a. Listed (numberOf a)) (λ i. kept) (hit ruleNumbers 18 tt)
+time-number t = time-cases t (λ a. Listed (answerNumber a)) (λ i. kept) (hit ruleNumbers 18 tt)
 
 polygon-number : (t : List ℕ) → Listed (polygonRule t)
 unfolding polygonRule
-polygon-number t = polygon-cases t (λ a. Listed (numberOf a)) (λ ring. kept) (hit ruleNumbers 22 tt)
+polygon-number t = polygon-cases t (λ a. Listed (answerNumber a)) (λ ring. kept) (hit ruleNumbers 22 tt)
 
 circle-number : (t : List ℕ) → Listed (circleRule t)
 unfolding circleRule
-circle-number t = circle-cases t (λ a. Listed (numberOf a)) (λ c m. kept) (hit ruleNumbers 22 tt)
+circle-number t = circle-cases t (λ a. Listed (answerNumber a)) (λ c m. kept) (hit ruleNumbers 22 tt)
 
 pub rule-numbers : (c : ℕ) (t : List ℕ) → OneOf ruleNumbers (textRule c t)
 unfolding textRule

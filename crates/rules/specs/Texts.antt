@@ -4,7 +4,7 @@ use mathlib.Core.List.{List}
 use Prim.Native.Nat.{ℕ}
 use lib.Dec.{eqb, leb, ltb}
 use lib.ListN.{length}
-use Rattle.text.specs.Answers.{Answer, gives, refuses}
+use Rattle.text.specs.Answers.{answerNumber}
 use Rattle.time.specs.Time.{timeOf}
 use Rattle.sheet.specs.Sheet.{allNameBytes}
 use Rattle.polygon.specs.Polygon.{polygonOf}
@@ -20,19 +20,16 @@ nameRule t = cond (ltb 128 (length t)) 14 (cond (leb 1 (length t) && allNameByte
 unfoldable pub codeRule : ℕ → List ℕ → ℕ
 codeRule c t = cond (eqb (codeOf c t) 0) 17 0
 
--- the number of a refusal, 0 for an answer that is given: 18 is "time", 22 "polygon or circle text"
-abbrev pub numberOf : {A : Type 0} → Answer A → ℕ
-numberOf (gives x) = 0
-numberOf (refuses n i) = n
-
+-- 18: "time"
 unfoldable pub timeRule : List ℕ → ℕ
-timeRule t = numberOf (timeOf t)
+timeRule t = answerNumber (timeOf t)
 
+-- 22: "polygon or circle text"
 unfoldable pub polygonRule : List ℕ → ℕ
-polygonRule t = numberOf (polygonOf t)
+polygonRule t = answerNumber (polygonOf t)
 
 unfoldable pub circleRule : List ℕ → ℕ
-circleRule t = numberOf (circleOf t)
+circleRule t = answerNumber (circleOf t)
 
 -- sent, effective, onset, expires
 abbrev pub isTime : ℕ → Bool

@@ -1,4 +1,5 @@
 -- Answers: a public function "either answers or refuses with the number and place that document 01 fixes" (the request, demand 1).
+use mathlib.Core.Bool.{Bool, true, false}
 use Prim.Native.Nat.{ℕ}
 
 -- a refusal's place is an offset in the text that is refused
@@ -15,3 +16,13 @@ andThen (refuses n p) f = refuses n p
 abbrev pub giving : {A B : Type 0} → (A → B) → Answer A → Answer B
 giving f (gives x) = gives (f x)
 giving f (refuses n p) = refuses n p
+
+-- whether a value is given
+abbrev pub isGiven : {A : Type 0} → Answer A → Bool
+isGiven (gives x) = true
+isGiven (refuses n p) = false
+
+-- a refusal's number, 0 where a value is given
+abbrev pub answerNumber : {A : Type 0} → Answer A → ℕ
+answerNumber (gives x) = 0
+answerNumber (refuses n p) = n

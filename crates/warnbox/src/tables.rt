@@ -7,7 +7,8 @@ use events::checks::Checked;
 use events::plans::Candidates;
 use events::plans::Plan;
 ghost use mathlib.Core.Path.{_≡_};
-ghost use Rattle.events.specs.Table.{positionOf, tableOutcome, answered, received, receiptAnswer, answerNumber, sweptAll};
+ghost use Rattle.text.specs.Answers.{answerNumber};
+ghost use Rattle.events.specs.Table.{positionOf, tableOutcome, answered, received, receiptAnswer, sweptAll};
 ghost use Rattle.events.specs.Steps.{scanned, checkedAnswer};
 
 // Frees the used entries whose keep-until is below a time.

@@ -12,10 +12,10 @@ use Rattle.walks.proofs.Types.{number, truth, mutable, shared, typed}
 use Rattle.walks.proofs.Steps.{local, part, sets, lands-in}
 use Rattle.walks.proofs.Calls.{calls-some, calls-plain, beside}
 use Rattle.walks.proofs.Walked.{others, nothings, had, drops, all-drop, ends, met}
-use Rattle.text.specs.Answers.{andThen}
+use Rattle.text.specs.Answers.{andThen, answerNumber}
 use Rattle.packet.specs.Packet.{packetOf}
 use Rattle.events.specs.declared.Entry.{Entry}
-use Rattle.events.specs.Table.{checked as rules, answered, receiptAnswer, answerNumber}
+use Rattle.events.specs.Table.{checked as rules, answered, receiptAnswer}
 use Rattle.events.specs.Steps.{checkedAnswer}
 use Rattle.events.proofs.Outcomes.{answer-and-entries, received-is}
 use Rattle.events.proofs.Entry as T
