@@ -16,7 +16,7 @@ ghost use Rattle.warnbox.specs.Sentences.{sentenceOf, afterSentence};
 
 // Checks a document; the value is its number of parts.
 #[no_mangle]
-pub extern "C" fn warnbox_check_document(document: &[u8], value: &mut u64) -> u8
+pub extern "C" fn warnbox_check_document(document: &[u8], value: &mut usize) -> u8
     ensures { λ r. ⌜ (r ≡ reply (checkOf (now (document .entry))) .number) × (now (value .exit) ≡ reply (checkOf (now (document .entry))) .value) ⌝ }
 {
     let reply = check_reply(document::check_document(document));
@@ -45,7 +45,7 @@ pub extern "C" fn warnbox_document_sentence(
     start: usize,
     document: &[u8],
     part: usize,
-    value: &mut u64,
+    value: &mut usize,
 ) -> u8
     ensures { λ r. ⌜ (r ≡ reply (sentenceOf (now (buffer .entry)) start (now (document .entry)) (capSheet part (now (document .entry)))) .number)
         × (now (value .exit) ≡ reply (sentenceOf (now (buffer .entry)) start (now (document .entry)) (capSheet part (now (document .entry)))) .value)
@@ -64,7 +64,7 @@ pub extern "C" fn warnbox_document_place(
     part: usize,
     lat: i32,
     lon: i32,
-    value: &mut u64,
+    value: &mut usize,
 ) -> u8
     ensures { λ r. ⌜ (r ≡ reply (giving sideNumber (capPlace part (record { lat = lat; lon = lon }) (now (document .entry)))) .number)
         × (now (value .exit) ≡ reply (giving sideNumber (capPlace part (record { lat = lat; lon = lon }) (now (document .entry)))) .value) ⌝ }

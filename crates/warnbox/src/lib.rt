@@ -10,5 +10,5 @@ mod writing; // writing.rt: the sentence of a sheet, the answer as numbers
 // What a function gives back: the number of a refusal, 0 for none, and the value.
 pub struct Reply {
     pub number: u8,
-    pub value: u64,
+    pub value: usize,
 }

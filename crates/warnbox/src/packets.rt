@@ -30,7 +30,7 @@ pub extern "C" fn warnbox_packet_sentence(
     buffer: &mut [u8],
     start: usize,
     packet: &[u8],
-    value: &mut u64,
+    value: &mut usize,
 ) -> u8
     ensures { λ r. ⌜ (r ≡ reply (sentenceOf (now (buffer .entry)) start [] (giving Warn (packetSheet (now (packet .entry))))) .number)
         × (now (value .exit) ≡ reply (sentenceOf (now (buffer .entry)) start [] (giving Warn (packetSheet (now (packet .entry))))) .value)
@@ -44,7 +44,7 @@ pub extern "C" fn warnbox_packet_sentence(
 
 // Whether a place is inside a packet's circle; the value is 0 for outside, 1 for inside.
 #[no_mangle]
-pub extern "C" fn warnbox_packet_place(packet: &[u8], lat: i32, lon: i32, value: &mut u64) -> u8
+pub extern "C" fn warnbox_packet_place(packet: &[u8], lat: i32, lon: i32, value: &mut usize) -> u8
     ensures { λ r. ⌜ (r ≡ reply (giving boolByte (packetPlace (now (packet .entry)) (record { lat = lat; lon = lon }))) .number)
         × (now (value .exit) ≡ reply (giving boolByte (packetPlace (now (packet .entry)) (record { lat = lat; lon = lon }))) .value) ⌝ }
 {

@@ -19,7 +19,7 @@ pub fn refused(number: u8, offset: usize) -> Reply
 {
     Reply {
         number: number,
-        value: offset as u64,
+        value: offset,
     }
 }
 
@@ -29,11 +29,11 @@ pub fn check_reply(check: Check) -> Reply
     match check {
         Check::Accepted(parts) => Reply {
             number: 0,
-            value: parts as u64,
+            value: parts,
         },
         Check::Refused(number, offset) => Reply {
             number: number,
-            value: offset as u64,
+            value: offset,
         },
     }
 }
@@ -44,7 +44,7 @@ pub fn write_reply(answer: WriteSheet) -> Reply
     match answer {
         WriteSheet::End(end) => Reply {
             number: 0,
-            value: end as u64,
+            value: end,
         },
         WriteSheet::OutOfRange => Reply {
             number: 23,
@@ -83,7 +83,7 @@ pub fn cap_place_reply(answer: CapPlace) -> Reply
         },
         CapPlace::Refused(number, offset) => Reply {
             number: number,
-            value: offset as u64,
+            value: offset,
         },
     }
 }
@@ -114,15 +114,15 @@ pub fn read_reply(answer: ReadBack) -> Reply
     match answer {
         ReadBack::Count(n) => Reply {
             number: 0,
-            value: n as u64,
+            value: n,
         },
         ReadBack::Sheet(n, found) => Reply {
             number: 0,
-            value: n as u64,
+            value: n,
         },
         ReadBack::NotReadBack(offset) => Reply {
             number: 23,
-            value: offset as u64,
+            value: offset,
         },
         ReadBack::NotThere => Reply {
             number: 21,

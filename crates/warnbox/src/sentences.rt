@@ -70,7 +70,7 @@ pub extern "C" fn warnbox_write(
     start: usize,
     text: &[u8],
     sheet: &[u64; 15],
-    value: &mut u64,
+    value: &mut usize,
 ) -> u8
     ensures { λ r. ⌜ (r ≡ reply (sentenceOf (now (buffer .entry)) start (now (text .entry)) (handedIn (now (text .entry)) (now (sheet .entry)))) .number)
         × (now (value .exit) ≡ reply (sentenceOf (now (buffer .entry)) start (now (text .entry)) (handedIn (now (text .entry)) (now (sheet .entry)))) .value)
@@ -83,7 +83,7 @@ pub extern "C" fn warnbox_write(
 
 // Counts the read-backs of a text; the value is their number.
 #[no_mangle]
-pub extern "C" fn warnbox_count(text: &[u8], value: &mut u64) -> u8
+pub extern "C" fn warnbox_count(text: &[u8], value: &mut usize) -> u8
     ensures { λ r. ⌜ (r ≡ reply (giving countOf (readBack (now (text .entry)) 0)) .number) × (now (value .exit) ≡ reply (giving countOf (readBack (now (text .entry)) 0)) .value) ⌝ }
 {
     let reply = read_reply(reader::read_back(text, 0));
@@ -109,7 +109,7 @@ pub extern "C" fn warnbox_read_back(
     text: &[u8],
     k: usize,
     sheet: &mut [u64; 15],
-    value: &mut u64,
+    value: &mut usize,
 ) -> u8
     ensures { λ r. ⌜ (r ≡ reply (giving countOf (readBack (now (text .entry)) k)) .number)
         × (now (value .exit) ≡ reply (giving countOf (readBack (now (text .entry)) k)) .value)
