@@ -45,6 +45,23 @@ expect "list_readbacks" "$got.all" "$got"
 (cat "$wanted"; echo "cap alert.") | target/bin/list_readbacks >"$got"
 echo "refused 23 at $(stat -c %s "$wanted")" >"$got.all"
 expect "list_readbacks, a damaged text" "$got.all" "$got"
+# no answer about a part of an input: 2,048 lines of 146 bytes are more than the program holds
+yes "$(head -1 tests/vectors/007-I4.out)" | head -n 2048 | target/bin/list_readbacks >"$got"
+echo "input over 262144 bytes" >"$got.all"
+expect "list_readbacks, a text too long" "$got.all" "$got"
+yes "$(head -1 tests/vectors/007-I4.out)" | head -n 1795 >"$wanted"
+(echo "1795 read-backs"; cat "$wanted") >"$got.all"
+target/bin/list_readbacks <"$wanted" >"$got"
+expect "list_readbacks, a long text" "$got.all" "$got"
+echo "input can't be read" >"$got.all"
+for program in sentences packet_sentence "inside 0 0" list_readbacks; do
+    target/bin/$program <tests >"$got"
+    expect "$program, a folder as its input" "$got.all" "$got"
+done
+(cat tests/vectors/warn-01-sample.out; yes) | head -c 70000 | target/bin/sentences >"$got"
+echo "refused 14 at 0" >"$got.all"
+expect "sentences, an input too long" "$got.all" "$got"
+
 target/bin/inside 91 0 </dev/null | grep -c '^usage: ' >"$got"
 echo 1 >"$got.all"
 expect "inside, bad arguments" "$got.all" "$got"

@@ -2,7 +2,7 @@
 use coordinates::Degrees;
 use coordinates::Place;
 use document::Check;
-use libc::STDIN_FILENO;
+use input::Ending;
 use libc::STDOUT_FILENO;
 use parts::CapPlace;
 
@@ -50,13 +50,23 @@ fn print_parts(document: &[u8], total: usize, place: Place) {
     }
 }
 
-fn answer(place: Place) {
-    let mut document = [0u8; 65537]; // one byte more than a document may have
-    let n = io::read_full(STDIN_FILENO, &mut document);
-    let checked = document::check_document(&document[..n]);
+// Writes the answers about a document, or its refusal.
+fn print_answers(document: &[u8], place: Place) {
+    let checked = document::check_document(document);
     match checked {
-        Check::Accepted(total) => print_parts(&document[..n], total, place),
+        Check::Accepted(total) => print_parts(document, total, place),
         Check::Refused(number, at) => print_refusal(number as u64, at as u64),
+    }
+}
+
+fn answer(place: Place) {
+    let mut document = [0u8; 65537]; // one byte more than a document may have: what follows can't change the answer
+    let read = input::read_input(&mut document);
+    let n = read.length;
+    let ending = read.ending;
+    match ending {
+        Ending::Whole | Ending::More => print_answers(&document[..n], place),
+        Ending::Failed => print(b"input can't be read\n"),
     }
 }
 

@@ -1,6 +1,6 @@
-// Reads a text of read-backs from standard input, of at most 262,144 bytes, and lists them, each written anew from its sheet; or writes where the text
-// isn't read-backs.
-use libc::STDIN_FILENO;
+// Reads a text of read-backs from standard input and lists them, each written anew from its sheet; or writes where the text isn't read-backs. A text of
+// more than 262,144 bytes is not judged by its first ones: it is said to be too long.
+use input::Ending;
 use libc::STDOUT_FILENO;
 use sheet::Found;
 use sheet::ReadBack;
@@ -102,7 +102,13 @@ fn read_back(text: &[u8]) {
 }
 
 fn main() {
-    let mut buffer = [0u8; 262144];
-    let n = io::read_full(STDIN_FILENO, &mut buffer);
-    read_back(&buffer[..n]);
+    let mut text = [0u8; 262144];
+    let read = input::read_input(&mut text);
+    let n = read.length;
+    let ending = read.ending;
+    match ending {
+        Ending::Whole => read_back(&text[..n]),
+        Ending::More => print(b"input over 262144 bytes\n"),
+        Ending::Failed => print(b"input can't be read\n"),
+    }
 }

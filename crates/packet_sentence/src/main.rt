@@ -1,5 +1,5 @@
 // Reads one WARN packet from standard input and writes its sentence, or its refusal.
-use libc::STDIN_FILENO;
+use input::Ending;
 use libc::STDOUT_FILENO;
 use packet::Fault;
 use packet::PacketSheet;
@@ -26,12 +26,23 @@ fn print_refusal(fault: Fault) {
     io::write_all(STDOUT_FILENO, b" at 0\n");
 }
 
-fn main() {
-    let mut packet = [0u8; 1201]; // one byte more than a packet may have
-    let n = io::read_full(STDIN_FILENO, &mut packet);
-    let drawn = packet::packet_sheet(&packet[..n]);
+fn print_answer(packet: &[u8]) {
+    let drawn = packet::packet_sheet(packet);
     match drawn {
         PacketSheet::Sheet(facts) => print_sentence(facts),
         PacketSheet::Refused(fault) => print_refusal(fault),
+    }
+}
+
+fn main() {
+    let mut packet = [0u8; 1201]; // one byte more than a packet may have: what follows can't change the answer
+    let read = input::read_input(&mut packet);
+    let n = read.length;
+    let ending = read.ending;
+    match ending {
+        Ending::Whole | Ending::More => print_answer(&packet[..n]),
+        Ending::Failed => {
+            io::write_all(STDOUT_FILENO, b"input can't be read\n");
+        }
     }
 }
