@@ -37,7 +37,7 @@ static void load_row(struct row *row, const char *folder) {
     demand(glob(pattern, 0, NULL, &found) == 0 && found.gl_pathc <= MOST, "no such files, or too many", pattern);
     for (row->count = 0; row->count < found.gl_pathc; row->count++) {
         size_t i = row->count;
-        uint64_t value;
+        size_t value;
         row->documents[i].bytes = load("", found.gl_pathv[i], &row->documents[i].length);
         demand(warnbox_check_document(row->documents[i].bytes, row->documents[i].length, &value) == 0, "refused by the library", found.gl_pathv[i]);
         row->documents[i].parts = value;
@@ -51,7 +51,7 @@ static void load_row(struct row *row, const char *folder) {
 static void check(void *of) {
     struct row *row = of;
     for (size_t i = 0; i < row->count; i++) {
-        uint64_t value;
+        size_t value;
         uint8_t refusal = warnbox_check_document(row->documents[i].bytes, row->documents[i].length, &value);
         demand(refusal == 0 && value == row->documents[i].parts, "refused by the library", row->name);
     }
@@ -79,7 +79,7 @@ static void libxml2(void *of) {
 static void sentences(struct row *row, bool last) {
     for (size_t i = 0; i < row->count; i++) {
         uint8_t buffer[651];
-        uint64_t value;
+        size_t value;
         size_t parts = row->documents[i].parts, part = last || parts == 0 ? parts : 1;
         uint8_t refusal = warnbox_document_sentence(buffer, sizeof buffer, 0, row->documents[i].bytes, row->documents[i].length, part, &value);
         demand(refusal == 0 && value > 0 && buffer[value - 1] == '\n', "no sentence", row->name);

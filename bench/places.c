@@ -34,7 +34,7 @@ enum { LIBRARY, GEOS, PREPARED, RUNNERS };
 static GEOSContextHandle_t geos;
 
 static bool library_says(const struct ring *ring, int32_t latitude, int32_t longitude) {
-    uint64_t value;
+    size_t value;
     uint8_t refusal = warnbox_document_place(ring->document, ring->length, 1, latitude, longitude, &value);
     demand(refusal == 0 && value != WARNBOX_NO_SHAPE, "no answer from the library", ring->document_name);
     return value == WARNBOX_INSIDE;

@@ -21,13 +21,13 @@ static void make_sheets(void) {
     for (size_t i = 0; i < SHEETS; i++) {
         if (i % 2) {
             sheets[i].kind = WARNBOX_WARN;
-            sheets[i].warn = (struct warnbox_warn){
+            sheets[i].facts.warn = (struct warnbox_warn){
                 .urgent = i % 3 == 0, .cancel = i % 5 == 0, .event = 7919 * i, .number = i, .origin = 21, .lasting = 1 + i * 37 * 83 % 31536000,
                 .hazard = i % 256, .urgency = 3, .severity = 2, .certainty = 1};
         } else {
             size_t length = (size_t)sprintf((char *)names + names_length, "A%zu", i);
             sheets[i].kind = WARNBOX_CAP;
-            sheets[i].cap = (struct warnbox_cap){
+            sheets[i].facts.cap = (struct warnbox_cap){
                 .message = 1 + i % 3, .status = 1, .scope = 1, .part = 1, .total = 1 + i % 16, .urgency = 1 + i % 5, .severity = 1 + i / 5 % 5,
                 .certainty = 1, .stated = 1, .lasting = 900 + i, .sender_length = SENDER, .name_start = names_length, .name_length = length};
             names_length += length;
@@ -39,7 +39,7 @@ static void make_sheets(void) {
 
 static void write_all(void *of) {
     struct text *text = of;
-    uint64_t end = 0;
+    size_t end = 0;
     for (size_t i = 0; i < text->count; i++) {
         demand(warnbox_write(text->bytes, sizeof text->bytes, end, names, names_length, &sheets[i], &end) == 0, "a sheet isn't written", text->name);
     }
@@ -48,14 +48,14 @@ static void write_all(void *of) {
 
 static void count_all(void *of) {
     struct text *text = of;
-    uint64_t count;
+    size_t count;
     demand(warnbox_count(text->bytes, text->length, &count) == 0 && count == text->count, "a wrong count", text->name);
 }
 
 static void read_last(void *of) {
     struct text *text = of;
     struct warnbox_sheet sheet;
-    uint64_t count;
+    size_t count;
     uint8_t refusal = warnbox_read_back(text->bytes, text->length, text->count, &sheet, &count);
     demand(refusal == 0 && count == text->count && sheet.kind == sheets[text->count - 1].kind, "the last sheet isn't read back", text->name);
 }
@@ -63,11 +63,11 @@ static void read_last(void *of) {
 /* All of a sheet that is read back is as it was written. */
 static void compare(struct text *text, size_t i) {
     struct warnbox_sheet sheet;
-    uint64_t count;
+    size_t count;
     memset(&sheet, 0, sizeof sheet);
     demand(warnbox_read_back(text->bytes, text->length, i + 1, &sheet, &count) == 0, "a sheet isn't read back", text->name);
     if (sheet.kind == WARNBOX_CAP) {
-        struct warnbox_cap *cap = &sheet.cap, *wanted = &sheets[i].cap;
+        struct warnbox_cap *cap = &sheet.facts.cap, *wanted = &sheets[i].facts.cap;
         demand(cap->sender_length == wanted->sender_length && cap->name_length == wanted->name_length
                    && memcmp(text->bytes + cap->sender_start, names + wanted->sender_start, cap->sender_length) == 0
                    && memcmp(text->bytes + cap->name_start, names + wanted->name_start, cap->name_length) == 0,

@@ -17,17 +17,17 @@ static const uint32_t keys[] = {4294967295u, 7, KEY};
 /* All entries are used, for other events; the last of each table is what the case asks for. */
 static void fill(struct tables *tables, struct warnbox_entry last) {
     for (size_t i = 0; i < ALL; i++) {
-        tables->entries[i] = (struct warnbox_entry){.used = true, .key = KEY, .event = 1000 + (uint32_t)i, .sequence = 1, .keep_until = CLOCK};
+        tables->entries[i] = (struct warnbox_entry){.used = 1, .key = KEY, .event = 1000 + (uint32_t)i, .sequence = 1, .keep_until = CLOCK};
         if (i % tables->length == tables->length - 1) tables->entries[i] = last;
     }
 }
-static void fill_known(void *of) { fill(of, (struct warnbox_entry){.used = true, .key = KEY, .event = EVENT, .sequence = 1}); }
-static void fill_free(void *of) { fill(of, (struct warnbox_entry){.used = false}); }
-static void fill_full(void *of) { fill(of, (struct warnbox_entry){.used = true, .key = KEY, .event = 8}); }
+static void fill_known(void *of) { fill(of, (struct warnbox_entry){.used = 1, .key = KEY, .event = EVENT, .sequence = 1}); }
+static void fill_free(void *of) { fill(of, (struct warnbox_entry){.used = 0}); }
+static void fill_full(void *of) { fill(of, (struct warnbox_entry){.used = 1, .key = KEY, .event = 8}); }
 
 static void receive(struct tables *tables, uint8_t wanted) {
     for (size_t i = 0; i < tables->count; i++) {
-        uint8_t answer = warnbox_receive(&tables->entries[i * tables->length], tables->length, packet, packet_length, keys, 3, true, CLOCK);
+        uint8_t answer = warnbox_receive(&tables->entries[i * tables->length], tables->length, packet, packet_length, keys, 3, 1, CLOCK);
         demand(answer == wanted, "a wrong answer", tables->name);
     }
 }

@@ -1,5 +1,7 @@
 """Choices that several kinds of calls make: numbers at their limits, buffers, lasting times, names."""
 
+import library
+
 HUGE = (2 ** 31, 2 ** 32 - 1, 2 ** 32, 2 ** 32 + 1, 2 ** 63 - 1, 2 ** 63, 2 ** 64 - 2, 2 ** 64 - 1)
 LONGEST = 31_536_000
 LASTING_LIMITS = (1, 2, 59, 60, 61, 3_599, 3_600, 3_601, 3_660, 86_399, 86_400, 86_401, 90_061, LONGEST - 1, LONGEST)
@@ -46,6 +48,16 @@ def name(rng):
     if chance(rng, 5):
         chosen = rng.choice((b"]", b"]]", b">", b"]>", b"]]]", b"'", b'"', b".", b"no", b"\x7f", b"\xff")) + chosen[:125]
     return chosen.replace(b"]]>", b"]].")
+
+
+def any_sheet(rng):
+    """What a sheet may hold before it is given."""
+    return library.SHEET.unpack(rng.randbytes(library.SHEET.size))
+
+
+def any_parts(rng):
+    """What a packet's parts may hold before they are given."""
+    return library.PACKET.unpack(rng.randbytes(library.PACKET.size))
 
 
 def room(rng, length):

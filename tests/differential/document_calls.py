@@ -1,4 +1,4 @@
-"""Calls about CAP documents: checked, asked for sentences, asked about places."""
+"""Calls about CAP documents: checked, asked for sentences and sheets, asked about places."""
 import os
 import sys
 
@@ -26,6 +26,10 @@ def case(rng):
     for _ in range(sentences):
         part = pick_part(rng, alert)
         yield "document_sentence", (*choices.room(rng, sentence_length(document, part)), document, part)
+    part = pick_part(rng, alert)
+    number, _, sheet = yield "document_sheet", (document, part, choices.any_sheet(rng))
+    if number == 0:
+        yield "write", (*choices.room(rng, sentence_length(document, part)), document, sheet)
     for _ in range(places):
         part = pick_part(rng, alert)
         yield "document_place", (document, part, *pick_place(rng, alert, part))

@@ -1,7 +1,8 @@
 """What the model says of each call, in the form in which library.Library gives it.
 
 The model (tests/model/model.py) is used as it is; only its reading of the last document and of the last few hundred lines is remembered, since
-many calls are made about one document or text. What the header adds to the papers (numbers of codes, sheets as numbers, *value) is said here.
+many calls are made about one document or text. What the header adds to the papers (numbers of codes, sheets as numbers, a packet's parts, names of
+refusals, *value) is said here.
 """
 import functools
 import os
@@ -24,6 +25,14 @@ CERTAINTIES = ("observed", "likely", "possible", "unlikely", "unknown")
 
 OUT_OF_RANGE = -1  # no fact of a sheet may be this
 
+VERSION = 10_000
+NAMES = {1: b"packet too short", 2: b"not a WARN packet", 3: b"version not known", 4: b"not an alert", 5: b"packet too long",
+         6: b"place out of range", 7: b"lasting time out of range", 8: b"key not listed", 9: b"signature not verified",
+         10: b"sequence number not above the stored one", 11: b"no free entry in the table", 12: b"clock too late", 13: b"no room in the buffer",
+         14: b"too long, or too many infos", 15: b"XML form not allowed", 16: b"element not allowed, or missing", 17: b"code not in its list",
+         18: b"time not valid", 19: b"sender or identifier empty or with a forbidden byte", 21: b"what was asked for is not there",
+         22: b"polygon or circle not valid", 23: b"not read-backs, or a fact out of range"}
+
 
 class Remembered:
     """The model's reading of a document, kept until another document comes."""
@@ -44,6 +53,16 @@ class Remembered:
         return self.alert
 
 
+def with_offsets(content):
+    """The model's judgement of a text, which also remembers where the texts of an alert's own elements start."""
+    def judged(self, element, text, offset):
+        content(self, element, text, offset)
+        if self.stack[-1].element == "alert":
+            vars(self.alert).setdefault("offsets", {})[element] = offset
+    return judged
+
+
+model._Document.content = with_offsets(model._Document.content)
 model._document = Remembered(model._document)
 model._sheet_of_line = functools.lru_cache(maxsize=512)(model._sheet_of_line)
 
@@ -75,6 +94,21 @@ def asked(answer):
     return answer[1:] if refused(answer) else (0, PLACES[answer[0]])
 
 
+# ---- the library itself, and its refusals
+
+def version():
+    return 0, VERSION
+
+
+def refusal_name(buffer, start, number):
+    name = NAMES.get(number)
+    if name is None:
+        return 21, 0, buffer
+    if start + len(name) > len(buffer):
+        return 13, 0, buffer
+    return 0, start + len(name), buffer[:start] + name + buffer[start + len(name):]
+
+
 # ---- CAP documents
 
 def check_document(document):
@@ -86,11 +120,36 @@ def document_sentence(buffer, start, document, part):
     return written(buffer, start, model.cap_sheet(document, part))
 
 
+def document_sheet(document, part, sheet):
+    drawn = model.cap_sheet(document, part)
+    if refused(drawn):
+        return drawn[1], drawn[2], sheet
+    offsets = model._document(document).offsets
+    return 0, 0, numbers_of(drawn[1], offsets["sender"], offsets["identifier"])
+
+
 def document_place(document, part, latitude, longitude):
     return asked(model.cap_place(document, part, latitude, longitude))
 
 
 # ---- WARN packets
+
+def read_packet(packet, parts):
+    answer = model.warn_read(packet)
+    if refused(answer):
+        return answer[1], parts
+    f = answer[1]
+    _, urgent, update, cancel, test = (int(flag) for flag in f["flags"])
+    signature_start, signature_length = f["sig"]
+    return 0, (f["timestamp"], f["onset"], f["expiry"], f["effective"], *f["tlv"], 0, signature_start, signature_start, signature_length,
+               f["event"], f["key"], f["lat"], f["lon"], f["seq"], f["ttl"], f["radius"], urgent, update, cancel, test,
+               f["hazard"], f["kind"], f["urgency"], f["severity"], f["certainty"], f["response"])
+
+
+def packet_sheet(packet, sheet):
+    drawn = model.warn_sheet(packet)
+    return (drawn[1], sheet) if refused(drawn) else (0, numbers_of(drawn[1]))
+
 
 def packet_sentence(buffer, start, packet):
     return written(buffer, start, model.warn_sheet(packet))
@@ -111,6 +170,13 @@ def sweep(table, time):
     return 0, model.sweep(table, time)
 
 
+def find_event(table, key, event):
+    for index, entry in enumerate(table):
+        if entry[0] and entry[1:3] == (key, event):
+            return 0, index
+    return 0, len(table)
+
+
 # ---- sheets and texts
 
 def write(buffer, start, text, sheet):
@@ -126,7 +192,18 @@ def read_back(text, k, sheet):
     answer = model.read(text, k)
     if refused(answer):
         return answer[1], answer[2], sheet
-    return 0, answer[1], sheet if k == 0 else numbers_of(text, k, answer[2])
+    return 0, answer[1], sheet if k == 0 else numbers_of(answer[2], *name_offsets(text, k, answer[2]))
+
+
+def name_offsets(text, k, sheet):
+    """Where the sender and the name of the k-th sentence of a text stand."""
+    if sheet["kind"] == "warn":
+        return None, None
+    lines = text.split(b"\n")
+    line, line_start = lines[k - 1], sum(len(line) + 1 for line in lines[:k - 1])
+    sender = line.index(b", from ") + len(b", from ")
+    name = line.index(b", name ", sender) + len(b", name ")
+    return line_start + sender, line_start + name
 
 
 # ---- sheets as the header's numbers
@@ -155,14 +232,22 @@ def sheet_of(text, numbers):
 
 def cap_sheet_of(text, message, status, scope, part, total, urgency, severity, certainty, stated, lasting,
                  sender_start, sender_length, name_start, name_length):
-    sheet = {"kind": "cap", "msgType": code(MESSAGES, message), "status": code(STATUSES, status), "scope": code(SCOPES, scope),
-             "sender": part_of(text, sender_start, sender_length), "name": part_of(text, name_start, name_length),
-             "part": part, "total": total, "urgency": None, "severity": None, "certainty": None, "lasts": None}
-    if (part, total) != (0, 0):
-        sheet["urgency"], sheet["severity"] = code(URGENCIES, urgency), code(SEVERITIES, severity)
-        sheet["certainty"] = code(CERTAINTIES, certainty)
-        sheet["lasts"] = {0: None, 1: lasting}.get(stated, OUT_OF_RANGE) if lasting < 2 ** 32 else OUT_OF_RANGE
-    return sheet
+    return {"kind": "cap", "msgType": code(MESSAGES, message), "status": code(STATUSES, status), "scope": code(SCOPES, scope),
+            "sender": part_of(text, sender_start, sender_length), "name": part_of(text, name_start, name_length),
+            "part": part, "total": total, "urgency": rating(URGENCIES, urgency), "severity": rating(SEVERITIES, severity),
+            "certainty": rating(CERTAINTIES, certainty), "lasts": lasting_of(stated, lasting)}
+
+
+def rating(codes, number):
+    """A part's code; None, which part 0 has, is 0."""
+    return None if number == 0 else code(codes, number) or OUT_OF_RANGE
+
+
+def lasting_of(stated, lasting):
+    """One that isn't stated is 0 and 0."""
+    if (stated, lasting) == (0, 0):
+        return None
+    return lasting if stated == 1 else OUT_OF_RANGE
 
 
 def warn_sheet_of(urgent, update, cancel, test, event, number, origin, lasting, hazard, kind, urgency, severity, certainty, response):
@@ -171,16 +256,12 @@ def warn_sheet_of(urgent, update, cancel, test, event, number, origin, lasting, 
             "certainty": certainty, "response": response}
 
 
-def numbers_of(text, k, sheet):
-    """The header's numbers for the sheet of the k-th sentence of a text."""
+def numbers_of(sheet, sender_start=None, name_start=None):
+    """The header's numbers for a sheet whose sender and name start at these offsets of a text."""
     if sheet["kind"] == "warn":
         return (WARN, *(int(sheet[fact]) for fact in (
             "urgent", "update", "cancel", "test", "event", "number", "origin", "lasts", "hazard", "kind2", "urgency", "severity", "certainty",
             "response")))
-    lines = text.split(b"\n")
-    line, line_start = lines[k - 1], sum(len(line) + 1 for line in lines[:k - 1])
-    sender = line.index(b", from ") + len(b", from ")
-    name = line.index(b", name ", sender) + len(b", name ")
     rated = sheet["total"] != 0
     stated = sheet["lasts"] is not None
     return (CAP, MESSAGES.index(sheet["msgType"]) + 1, STATUSES.index(sheet["status"]) + 1, SCOPES.index(sheet["scope"]) + 1,
@@ -189,4 +270,4 @@ def numbers_of(text, k, sheet):
             SEVERITIES.index(sheet["severity"]) + 1 if rated else 0,
             CERTAINTIES.index(sheet["certainty"]) + 1 if rated else 0,
             int(stated), sheet["lasts"] if stated else 0,
-            line_start + sender, len(sheet["sender"]), line_start + name, len(sheet["name"]))
+            sender_start, len(sheet["sender"]), name_start, len(sheet["name"]))

@@ -31,18 +31,11 @@ class Trespass(Exception):
     """A call wrote where it may not."""
 
 
-class Entry(ctypes.Structure):
-    """warnbox_entry, field for field as the header has it."""
-    _fields_ = [("used", ctypes.c_bool), ("key", ctypes.c_uint32), ("event", ctypes.c_uint32), ("sequence", ctypes.c_uint16),
-                ("cancelled", ctypes.c_bool), ("keep_until", ctypes.c_uint64)]
-
-
-# The same layout for whole tables at once; bools as bytes, so that a 2 is seen. Padding is skipped.
+# The header's structs, field for field; the header asserts the same sizes and offsets. Padding is skipped.
 ENTRY = struct.Struct("<B3xIIHBxQ")
-assert ENTRY.size == ctypes.sizeof(Entry) == 24
-assert [getattr(Entry, name).offset for name, _ in Entry._fields_] == [0, 4, 8, 12, 14, 16]
-
-SHEET = struct.Struct("<15Q")  # kind, then 14 numbers for either kind: 120 bytes without padding
+SHEET = struct.Struct("<15Q")             # kind, then 14 numbers for either kind
+PACKET = struct.Struct("<4Q6Q2I2i3H10B")  # four times, three spans, numbers, flags and codes
+assert (ENTRY.size, SHEET.size, PACKET.size) == (24, 120, 112)
 
 
 def packed(table):
@@ -60,15 +53,17 @@ class Lent:
         self.map = mmap.mmap(-1, size + page)
         self.end = ctypes.addressof(ctypes.c_char.from_buffer(self.map)) + size
         self.held = b""
+        self.null = False
         libc = ctypes.CDLL(None, use_errno=True)
         if libc.mprotect(ctypes.c_void_p(self.end), ctypes.c_size_t(page), 0) != 0:
             raise OSError(ctypes.get_errno(), "mprotect")
 
     def lend(self, content):
-        """Puts the content, and gives its address."""
+        """Puts the content, and gives its address; of no bytes, every second time, the null pointer."""
         self.held = self.MARGIN + content
         ctypes.memmove(self.end - len(self.held), self.held, len(self.held))
-        return self.end - len(content)
+        self.null = not content and not self.null
+        return None if self.null else self.end - len(content)
 
     def left(self):
         """What the call left there."""
@@ -91,31 +86,48 @@ class Library:
         self.table = Lent("the table", TABLE_ROOM)
         self.keys = Lent("the keys", TABLE_ROOM)
         self.sheet = Lent("the sheet", SHEET.size)
+        self.parts = Lent("the packet's parts", PACKET.size)
         self.declare()
 
     def declare(self):
-        """The parameters' types, as the header has them."""
-        at, size, number, degrees = ctypes.c_void_p, ctypes.c_size_t, ctypes.c_uint64, ctypes.c_int32
-        parameters = {
-            "check_document": (at, size, at),
-            "document_sentence": (at, size, size, at, size, size, at),
-            "document_place": (at, size, size, degrees, degrees, at),
-            "packet_sentence": (at, size, size, at, size, at),
-            "packet_place": (at, size, degrees, degrees, at),
-            "receive": (at, size, at, size, at, size, ctypes.c_bool, number),
-            "sweep": (at, size, number),
-            "write": (at, size, size, at, size, at, at),
-            "count": (at, size, at),
-            "read_back": (at, size, size, at, at),
+        """The types of results and parameters, as the header has them."""
+        at, size, degrees = ctypes.c_void_p, ctypes.c_size_t, ctypes.c_int32
+        byte, word, long = ctypes.c_uint8, ctypes.c_uint32, ctypes.c_uint64
+        signatures = {
+            "version": (word,),
+            "refusal_name": (byte, at, size, size, byte, at),
+            "write": (byte, at, size, size, at, size, at, at),
+            "count": (byte, at, size, at),
+            "read_back": (byte, at, size, size, at, at),
+            "check_document": (byte, at, size, at),
+            "document_sentence": (byte, at, size, size, at, size, size, at),
+            "document_sheet": (byte, at, size, size, at, at),
+            "document_place": (byte, at, size, size, degrees, degrees, at),
+            "read_packet": (byte, at, size, at),
+            "packet_sentence": (byte, at, size, size, at, size, at),
+            "packet_sheet": (byte, at, size, at),
+            "packet_place": (byte, at, size, degrees, degrees, at),
+            "receive": (byte, at, size, at, size, at, size, byte, long),
+            "sweep": (None, at, size, long),
+            "find_event": (size, at, size, word, word),
         }
-        for name, types in parameters.items():
+        for name, (result, *parameters) in signatures.items():
             function = getattr(self.functions, "warnbox_" + name)
-            function.argtypes = types
-            function.restype = None if name == "sweep" else ctypes.c_uint8
+            function.argtypes = parameters
+            function.restype = result
 
     def told(self):
         """*value after a call."""
         return int.from_bytes(self.value.left(), "little")
+
+    # ---- the library itself, and its refusals
+
+    def version(self):
+        return 0, self.functions.warnbox_version()
+
+    def refusal_name(self, buffer, start, refusal):
+        number = self.functions.warnbox_refusal_name(self.buffer.lend(buffer), len(buffer), start, refusal, self.value.lend(UNSET))
+        return number, self.told(), self.buffer.left()
 
     # ---- CAP documents
 
@@ -130,6 +142,12 @@ class Library:
         self.text.unchanged()
         return number, self.told(), self.buffer.left()
 
+    def document_sheet(self, document, part, sheet):
+        number = self.functions.warnbox_document_sheet(
+            self.text.lend(document), len(document), part, self.sheet.lend(SHEET.pack(*sheet)), self.value.lend(UNSET))
+        self.text.unchanged()
+        return number, self.told(), SHEET.unpack(self.sheet.left())
+
     def document_place(self, document, part, latitude, longitude):
         number = self.functions.warnbox_document_place(
             self.text.lend(document), len(document), part, latitude, longitude, self.value.lend(UNSET))
@@ -137,6 +155,16 @@ class Library:
         return number, self.told()
 
     # ---- WARN packets
+
+    def read_packet(self, packet, parts):
+        number = self.functions.warnbox_read_packet(self.text.lend(packet), len(packet), self.parts.lend(PACKET.pack(*parts)))
+        self.text.unchanged()
+        return number, PACKET.unpack(self.parts.left())
+
+    def packet_sheet(self, packet, sheet):
+        number = self.functions.warnbox_packet_sheet(self.text.lend(packet), len(packet), self.sheet.lend(SHEET.pack(*sheet)))
+        self.text.unchanged()
+        return number, SHEET.unpack(self.sheet.left())
 
     def packet_sentence(self, buffer, start, packet):
         number = self.functions.warnbox_packet_sentence(
@@ -162,6 +190,11 @@ class Library:
     def sweep(self, table, time):
         self.functions.warnbox_sweep(self.table.lend(packed(table)), len(table), time)
         return 0, list(ENTRY.iter_unpack(self.table.left()))
+
+    def find_event(self, table, key, event):
+        index = self.functions.warnbox_find_event(self.table.lend(packed(table)), len(table), key, event)
+        self.table.unchanged()
+        return 0, index
 
     # ---- sheets and texts
 

@@ -1,4 +1,4 @@
-"""Calls about WARN packets: their sentence, and places near their circle."""
+"""Calls about WARN packets: their fields, their sentence and sheet, and places near their circle."""
 import glob
 import os
 import struct
@@ -23,8 +23,12 @@ def case(rng):
     drawn = model.warn_sheet(packet)
     sound = not expected.refused(drawn)
     length = len(model.sentence(drawn[1])) if sound else 250
+    yield "read_packet", (packet, choices.any_parts(rng))
     for _ in range(2 if sound else 1):
         yield "packet_sentence", (*choices.room(rng, length), packet)
+    number, sheet = yield "packet_sheet", (packet, choices.any_sheet(rng))
+    if number == 0:
+        yield "write", (*choices.room(rng, length), b"", sheet)
     for _ in range(rng.randint(2, 4) if sound else 1):
         yield "packet_place", (packet, *shapes.place(rng, [], circles_of(packet)))
 

@@ -1,4 +1,4 @@
-"""Calls that write made-up sheets: in range, out of range, and numbers that stand for no sheet."""
+"""Calls that write made-up sheets: in range, out of range, and numbers that stand for no sheet; and calls for the names of refusals."""
 import choices
 import expected
 import sheets
@@ -7,7 +7,8 @@ from choices import any_number, chance
 model = expected.model
 
 FAULTY_NAMES = (b"", b"a,b", b"a b", b"a<b", b"a&b", b"a\nb", b"\x00", b"\x20", b"\x1f", b"a]]>b", b"]]>", b"x]]]>", b"x" * 129, b"y" * 200)
-CODE_FACTS, PART_FACTS, LASTING_FACT = (1, 2, 3, 6, 7, 8, 9), (4, 5), 10
+CODE_FACTS, PART_FACTS, STATED_FACT, LASTING_FACT = (1, 2, 3, 6, 7, 8, 9), (4, 5), 9, 10
+RATINGS = (6, 7, 8)  # urgency, severity, certainty
 NAME_FACTS = (11, 12, 13, 14)
 
 
@@ -28,6 +29,11 @@ def case(rng):
         sheet = tuple(sheet)
         line = model.sentence(expected.sheet_of(text, sheet))
         yield "write", (*choices.room(rng, len(line) if line else 150), text, sheet)
+    if chance(rng, 20):
+        number = rng.choice((rng.randrange(26), rng.getrandbits(8)))
+        yield "refusal_name", (*choices.room(rng, len(expected.NAMES.get(number, b"a name"))), number)
+    if chance(rng, 1):
+        yield "version", ()
 
 
 def laid_out(rng):
@@ -53,7 +59,7 @@ def shifted(rng, number):
 
 
 def out_of_range_cap(rng, sheet, text):
-    kind = rng.randrange(10)
+    kind = rng.randrange(12)
     if kind == 0:
         sheet[0] = shifted(rng, sheet[0])
     elif kind in (1, 2):
@@ -64,8 +70,18 @@ def out_of_range_cap(rng, sheet, text):
         sheet[fact] = rng.choice((0, 1, 16, 17, sheet[9 - fact], sheet[9 - fact] + 1, shifted(rng, sheet[fact])))
     elif kind == 5:
         sheet[LASTING_FACT] = rng.choice((0, choices.LONGEST, choices.LONGEST + 1, shifted(rng, sheet[LASTING_FACT])))
+    elif kind in (6, 7):
+        unsaid(rng, sheet)
     else:
         misplace(rng, sheet, text)
+
+
+def unsaid(rng, sheet):
+    """Sets a fact that the sentence doesn't say: of part 0, or a lasting time that isn't stated."""
+    if sheet[5] == 0:
+        sheet[rng.choice((*RATINGS, STATED_FACT, LASTING_FACT))] = rng.choice((1, 5, 2 ** 32, any_number(rng, 64)))
+    else:
+        sheet[STATED_FACT], sheet[LASTING_FACT] = 0, rng.choice((0, 1, choices.lasting(rng), any_number(rng, 64)))
 
 
 def misplace(rng, sheet, text):

@@ -32,14 +32,14 @@ def warn_numbers(rng):
 
 
 def cap_numbers(rng, sender, name):
-    """A CAP sheet in range; sender and name are (start, length). What isn't looked at holds anything."""
+    """A CAP sheet in range; sender and name are (start, length)."""
     total = rng.choice((0, 0, 1, 1, 2, 16, rng.randint(1, 16)))
     codes = [rng.randint(1, 5), rng.randint(1, 5), rng.randint(1, 3)]
     if total == 0:
-        rest = [0, 0, *(any_number(rng, 64) for _ in range(5))]
+        rest = [0] * 7
     else:
         stated = rng.choice((0, 1, 1))
-        rest = [rng.randint(1, total), total, *(rng.randint(1, 5) for _ in range(3)), stated, choices.lasting(rng) if stated else any_number(rng, 64)]
+        rest = [rng.randint(1, total), total, *(rng.randint(1, 5) for _ in range(3)), stated, choices.lasting(rng) if stated else 0]
     return [expected.CAP, *codes, *rest, *sender, *name]
 
 

@@ -1,4 +1,4 @@
-"""Sequences of receipts and sweeps on one event table."""
+"""Sequences of receipts, sweeps and searches on one event table."""
 import packet_calls
 from choices import any_number, chance
 
@@ -13,8 +13,15 @@ def case(rng):
     for _ in range(rng.randint(10, 30)):
         if chance(rng, 15):
             _, table = yield "sweep", (table, scene.sweep_time(table))
+        elif chance(rng, 15):
+            yield "find_event", (table, *scene.event_and_sequence(table)[:2])
         else:
-            _, table = yield "receive", (table, scene.packet(table), scene.keys(), chance(rng, 95), scene.clock())
+            _, table = yield "receive", (table, scene.packet(table), scene.keys(), mark(rng, chance(rng, 95)), scene.clock())
+
+
+def mark(rng, is_set):
+    """A byte that is set or not: any but 0 is."""
+    return rng.choice((1, 1, 1, 2, 128, 254, 255, rng.randint(1, 255))) if is_set else 0
 
 
 class Scene:
@@ -38,8 +45,9 @@ class Scene:
     def entry(self, used):
         rng = self.rng
         if chance(rng, 10):
-            return used, 0, 0, 0, False, 0
-        return used, rng.choice(self.known_keys), rng.choice(self.events), self.sequence(), chance(rng, 30), self.keep_until()
+            return mark(rng, used), 0, 0, 0, 0, 0
+        return (mark(rng, used), rng.choice(self.known_keys), rng.choice(self.events), self.sequence(), mark(rng, chance(rng, 30)),
+                self.keep_until())
 
     def sequence(self):
         return self.rng.choice((0, 1, 9, 65_534, 65_535)) if chance(self.rng, 30) else self.rng.getrandbits(16)

@@ -18,7 +18,7 @@ def case(rng):
     text, length = pick(rng)
     yield "count", (text,)
     for k in ks(rng, length):
-        yield "read_back", (text, k, tuple(rng.getrandbits(64) for _ in range(15)))
+        yield "read_back", (text, k, choices.any_sheet(rng))
 
 
 def pick(rng):
