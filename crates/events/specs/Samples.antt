@@ -1,6 +1,6 @@
 -- Bench samples of document 01 on packets, over the definitions.
 use mathlib.Core.Path.{_≡_, refl}
-use mathlib.Core.Bool.{true, false}
+use mathlib.Core.Bool.{true}
 use mathlib.Core.List.{List, [], _∷_, _++_}
 use Prim.Native.Nat.{ℕ, zero, suc, _/_, _%_, _^_}
 use Rattle.text.specs.Ascii.{ascii}
@@ -23,7 +23,7 @@ packetWith sequence expiry =
 
 -- that event's entry with a stored number
 abbrev pub stored : ℕ → Entry
-stored n = record { used = true; key = 21; event = 7; sequence = n; cancelled = false; «keep_until» = 0 }
+stored n = record { used = 1; key = 21; event = 7; sequence = n; cancelled = 0; «keep_until» = 0 }
 
 -- stored 9: 9 refused, 10 taken; stored 65,535: all refused
 pub sample-stored :

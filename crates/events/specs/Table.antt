@@ -4,6 +4,7 @@ use mathlib.Core.List.{List, [], _∷_}
 use Prim.Native.Nat.{ℕ, suc, _+_}
 use lib.Dec.{eqb, ltb}
 use lib.ListN.{length, getD, set}
+use mir.Val.{boolByte}
 use Rattle.text.specs.Answers.{Answer, gives, refuses, andThen}
 use Rattle.packet.specs.declared.Fields.{Fields}
 use Rattle.packet.specs.Packet.{packetOf, faultNumber}
@@ -18,16 +19,20 @@ use Rattle.events.specs.declared.Position.the-variants.{At, Nowhere}
 
 -- ---- entries
 
+-- "Any content ... may come in": any byte but 0 is set
+abbrev pub isSet : ℕ → Bool
+isSet b = not (eqb b 0)
+
 -- "an event (key id with event number)"
 abbrev pub isOf : ℕ → ℕ → Entry → Bool
-isOf key event e = e .used && eqb (e .key) key && eqb (e .event) event
+isOf key event e = isSet (e .used) && eqb (e .key) key && eqb (e .event) event
 
 abbrev pub isFree : Entry → Bool
-isFree e = not (e .used)
+isFree e = not (isSet (e .used))
 
 -- an entry for where there is none
 abbrev pub blank : Entry
-blank = record { used = false; key = 0; event = 0; sequence = 0; cancelled = false; «keep_until» = 0 }
+blank = record { used = 0; key = 0; event = 0; sequence = 0; cancelled = 0; «keep_until» = 0 }
 
 -- the index of the first entry that passes a test, or the number of entries
 unfoldable pub firstIndex : (Entry → Bool) → List Entry → ℕ
@@ -58,7 +63,7 @@ renewed new e = record {
   key = e .key;
   event = e .event;
   sequence = new .sequence;
-  cancelled = new .cancelled;
+  cancelled = boolByte (new .cancelled);
   «keep_until» = cond (ltb (e .«keep_until») (new .«keep_until»)) (new .«keep_until») (e .«keep_until»);
 }
 
@@ -66,11 +71,11 @@ renewed new e = record {
 -- keep-until is now plus ttl, whatever the free entry held."
 abbrev pub fresh : New → Entry
 fresh new = record {
-  used = true;
+  used = 1;
   key = new .key;
   event = new .event;
   sequence = new .sequence;
-  cancelled = new .cancelled;
+  cancelled = boolByte (new .cancelled);
   «keep_until» = new .«keep_until»;
 }
 
@@ -140,12 +145,12 @@ receiptAnswer (Refused r) = refuses (refusalNumber r) 0
 -- ---- "Sweeping at a time frees exactly the used entries whose keep-until is below it, touching only their used mark."
 
 abbrev pub isStale : ℕ → Entry → Bool
-isStale time e = e .used && ltb (e .«keep_until») time
+isStale time e = isSet (e .used) && ltb (e .«keep_until») time
 
 abbrev pub swept : ℕ → Entry → Entry
 swept time e =
     cond (isStale time e) (record {
-      used = false;
+      used = 0;
       key = e .key;
       event = e .event;
       sequence = e .sequence;

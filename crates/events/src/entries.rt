@@ -4,20 +4,27 @@ use crate::New;
 ghost use mathlib.Core.Path.{_≡_};
 ghost use mathlib.Core.Bool.{cond};
 ghost use lib.Dec.{ltb};
-ghost use Rattle.events.specs.Table.{isOf, isFree, blank, renewed, fresh, isStale, swept};
+ghost use Rattle.events.specs.Table.{isSet, isOf, isFree, blank, renewed, fresh, isStale, swept};
+
+// Whether a byte is set: any byte but 0 is.
+pub fn is_set(byte: u8) -> bool
+    ensures { λ r. ⌜ r ≡ isSet byte ⌝ }
+{
+    byte != 0
+}
 
 // Whether an entry is a used one of an event.
 pub fn is_of(key: u32, event: u32, entry: Entry) -> bool
     ensures { λ r. ⌜ r ≡ isOf key event entry ⌝ }
 {
-    entry.used & (entry.key == key) & (entry.event == event)
+    is_set(entry.used) & (entry.key == key) & (entry.event == event)
 }
 
 // Whether an entry is free.
 pub fn is_free(entry: Entry) -> bool
     ensures { λ r. ⌜ r ≡ isFree entry ⌝ }
 {
-    !entry.used
+    !is_set(entry.used)
 }
 
 // A free entry, with 0 in its other fields.
@@ -25,11 +32,11 @@ pub fn blank_entry() -> Entry
     ensures { λ r. ⌜ r ≡ blank ⌝ }
 {
     Entry {
-        used: false,
+        used: 0,
         key: 0,
         event: 0,
         sequence: 0,
-        cancelled: false,
+        cancelled: 0,
         keep_until: 0,
     }
 }
@@ -60,7 +67,7 @@ pub fn renew(entry: Entry, new: New) -> Entry
         key: entry.key,
         event: entry.event,
         sequence: new.sequence,
-        cancelled: new.cancelled,
+        cancelled: new.cancelled as u8,
         keep_until: later(entry.keep_until, new.keep_until),
     }
 }
@@ -70,11 +77,11 @@ pub fn fresh_entry(new: New) -> Entry
     ensures { λ r. ⌜ r ≡ fresh new ⌝ }
 {
     Entry {
-        used: true,
+        used: 1,
         key: new.key,
         event: new.event,
         sequence: new.sequence,
-        cancelled: new.cancelled,
+        cancelled: new.cancelled as u8,
         keep_until: new.keep_until,
     }
 }
@@ -83,7 +90,7 @@ pub fn fresh_entry(new: New) -> Entry
 pub fn is_stale(time: u64, entry: Entry) -> bool
     ensures { λ r. ⌜ r ≡ isStale time entry ⌝ }
 {
-    entry.used & (entry.keep_until < time)
+    is_set(entry.used) & (entry.keep_until < time)
 }
 
 // An entry after a sweep: only the used mark may change.
@@ -92,7 +99,7 @@ pub fn sweep_entry(time: u64, entry: Entry) -> Entry
 {
     if is_stale(time, entry) {
         return Entry {
-            used: false,
+            used: 0,
             key: entry.key,
             event: entry.event,
             sequence: entry.sequence,

@@ -13,14 +13,15 @@ use checks::Checked;
 use plans::Candidates;
 use plans::Plan;
 
-// An entry of the event table, laid out as C lays it out: a caller in C lends such entries.
+// An entry of the event table, laid out as C lays it out: a caller in C lends such entries. Its marks are bytes, as its memory may hold any
+// bytes; any byte but 0 is set.
 #[repr(C)]
 pub struct Entry {
-    pub used: bool,
+    pub used: u8,
     pub key: u32,
     pub event: u32,
     pub sequence: u16,
-    pub cancelled: bool,
+    pub cancelled: u8,
     pub keep_until: u64,
 }
 

@@ -85,7 +85,7 @@ fn print_place(bytes: &[u8], place: Place) {
 
 fn print_entry(i: usize, entry: Entry) {
     print_number(i as u64);
-    if entry.used {
+    if events::entries::is_set(entry.used) {
         print(b" used");
     } else {
         print(b" free");
@@ -93,7 +93,7 @@ fn print_entry(i: usize, entry: Entry) {
     print_spaced(entry.key as u64);
     print_spaced(entry.event as u64);
     print_spaced(entry.sequence as u64);
-    if entry.cancelled {
+    if events::entries::is_set(entry.cancelled) {
         print(b" cancelled");
     }
     print_spaced(entry.keep_until);
@@ -104,7 +104,7 @@ fn print_table(table: Table) {
     let mut i = 0;
     while i < 64 {
         let entry = table.entries[i];
-        if entry.used | (0 < entry.keep_until) {
+        if events::entries::is_set(entry.used) | (0 < entry.keep_until) {
             print_entry(i, entry);
         }
         i += 1;
@@ -172,11 +172,11 @@ fn number_at(input: &[u8], at: usize, width: usize) -> u64 {
 
 fn empty_table() -> Table {
     let blank = Entry {
-        used: false,
+        used: 0,
         key: 0,
         event: 0,
         sequence: 0,
-        cancelled: false,
+        cancelled: 0,
         keep_until: 0,
     };
     Table {

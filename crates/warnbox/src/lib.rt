@@ -1,5 +1,6 @@
 // The warning box for C: include/warnbox.h documents each function for its callers.
-// Every function gives the number of a refusal, 0 for none, and writes a value: a refusal's offset, or else what the function tells.
+// Every function but the event table's gives the number of a refusal, 0 for none, and writes a value: a refusal's offset, or else what the
+// function tells.
 mod replies; // replies.rt: answers as numbers
 mod documents; // documents.rt: CAP documents
 mod packets; // packets.rt: WARN packets

@@ -8,7 +8,7 @@ use events::plans::Candidates;
 use events::plans::Plan;
 ghost use mathlib.Core.Path.{_≡_};
 ghost use Rattle.text.specs.Answers.{answerNumber};
-ghost use Rattle.events.specs.Table.{positionOf, tableOutcome, answered, received, receiptAnswer, sweptAll};
+ghost use Rattle.events.specs.Table.{isSet, indexOf, positionOf, tableOutcome, answered, received, receiptAnswer, sweptAll};
 ghost use Rattle.events.specs.Steps.{scanned, checkedAnswer};
 
 // Frees the used entries whose keep-until is below a time.
@@ -34,6 +34,15 @@ fn scan(entries: &[Entry], key: u32, event: u32) -> Candidates
         i += 1;
     }
     found
+}
+
+// The index of an event's first used entry, the number of entries where it has none.
+#[no_mangle]
+pub extern "C" fn warnbox_find_event(entries: &[Entry], key: u32, event: u32) -> usize
+    ensures { λ r. ⌜ r ≡ indexOf key event (now (entries .entry)) ⌝ }
+{
+    let found = scan(entries, key, event);
+    found.known
 }
 
 // Where an event's first used entry stands.
@@ -73,18 +82,19 @@ fn answer(entries: &mut [Entry], checked: Checked) -> Receipt
     }
 }
 
-// A packet is received. `verdict` is the signature chip's, `keys` are the key ids that are listened to; every refusal's offset is 0.
+// A packet is received. `verified` is the signature chip's verdict, any byte but 0 being yes; `keys` are the key ids that are listened to. Every
+// refusal's offset is 0.
 #[no_mangle]
 pub extern "C" fn warnbox_receive(
     entries: &mut [Entry],
     packet: &[u8],
     keys: &[u32],
-    verdict: bool,
+    verified: u8,
     clock: u64,
 ) -> u8
-    ensures { λ r. ⌜ (r ≡ answerNumber (received (now (entries .entry)) (now (packet .entry)) (now (keys .entry)) verdict clock .answer)) × (now (entries .exit) ≡ received (now (entries .entry)) (now (packet .entry)) (now (keys .entry)) verdict clock .entries) ⌝ }
+    ensures { λ r. ⌜ (r ≡ answerNumber (received (now (entries .entry)) (now (packet .entry)) (now (keys .entry)) (isSet verified) clock .answer)) × (now (entries .exit) ≡ received (now (entries .entry)) (now (packet .entry)) (now (keys .entry)) (isSet verified) clock .entries) ⌝ }
 {
-    let checked = events::checks::check(packet, keys, verdict, clock);
+    let checked = events::checks::check(packet, keys, verified != 0, clock);
     let receipt = answer(entries, checked);
     events::receipt_number(receipt)
 }

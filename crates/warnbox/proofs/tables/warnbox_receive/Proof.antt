@@ -1,12 +1,12 @@
--- `warnbox_receive` meets its contract: a walk of its MIR, by hand. `check` is called on the packet and the keys, then `answer` on the entries,
--- which are given up to it for good, and `receipt_number` on the receipt.
+-- `warnbox_receive` meets its contract: a walk of its MIR, by hand. The verdict's byte is compared with 0, and `check` is called on the packet and
+-- the keys; then `answer` on the entries, which are given up to it for good, and `receipt_number` on the receipt.
 -- Assumes nothing.
-use Rattle.walks.proofs.Walk.{_≡_, refl, ap, _∙_, _∷_, [], List, length, URA, named, w8, w64, Val, vint, vbool, SProp, emp, id⊢, Memory, Routine}
-use Rattle.walks.proofs.Walk.{Heap, WpFn, Tables, Atoms, Fun, factI, givenOf, tables, tablesOf}
-use Rattle.walks.proofs.Walk.{Given, ‵, _⊛_, _$_, _∵_, !, qed, by, use0, use1, move, keep, join, split, fsplit, fjoin, feqL, whole, sub, look-in, agg}
-use Rattle.walks.proofs.Walk.{addr, from, fld, hop, stop, and-then, no-more, nothing, now, sliceVal, owns, typesAt}
-use Rattle.walks.proofs.Walk.{flft, ftrue, Triple, Vals, tripleOf, Meets, entered, cited, Stays, gave-slice, goes-gave-slice, plain, u8, u32}
-use Rattle.walks.proofs.Walk.{RattleType}
+use Rattle.walks.proofs.Walk.{_≡_, refl, ap, _∙_, _∷_, [], Bool, ℕ, List, length, URA, named, w8, w64, Val, vint, vbool, SProp, emp, id⊢}
+use Rattle.walks.proofs.Walk.{Memory, Routine, Heap, WpFn, Tables, Atoms, Fun, factI, givenOf, tables, tablesOf}
+use Rattle.walks.proofs.Walk.{Given, ‵, _⊛_, _$_, _∵_, !, qed, by, use0, use1, move, keep, join, split, fsplit, fjoin, feqL, drop}
+use Rattle.walks.proofs.Walk.{whole, sub, look-in, agg, lit, bin, addr, from, fld, hop, stop, and-then, no-more, nothing, now, sliceVal, owns}
+use Rattle.walks.proofs.Walk.{typesAt, flft, ftrue, Triple, Vals, tripleOf, Meets, entered, cited, Stays, gave-slice, goes-gave-slice, plain, u8, u32}
+use Rattle.walks.proofs.Walk.{u64, bool, RattleType}
 use Rattle.walks.proofs.Locals.{holds, enters, leaves}
 use Rattle.walks.proofs.Types.{number, truth, mutable, shared, typed}
 use Rattle.walks.proofs.Steps.{local, part, sets, lands-in}
@@ -15,7 +15,7 @@ use Rattle.walks.proofs.Walked.{others, nothings, had, drops, all-drop, ends, m
 use Rattle.text.specs.Answers.{andThen, answerNumber}
 use Rattle.packet.specs.Packet.{packetOf}
 use Rattle.events.specs.declared.Entry.{Entry}
-use Rattle.events.specs.Table.{checked as rules, answered, receiptAnswer}
+use Rattle.events.specs.Table.{isSet, checked as rules, answered, receiptAnswer}
 use Rattle.events.specs.Steps.{checkedAnswer}
 use Rattle.events.proofs.Outcomes.{answer-and-entries, received-is}
 use Rattle.events.proofs.Entry as T
@@ -53,28 +53,39 @@ module _ {M : Type 1} (𝓤 : URA M) (H : Heap 𝓤) (A : Atoms 𝓤) (W : Given
   ) 𝓣 code.function
       (λ κs. (
         mutable (named 0) (κs .0) R,
-        (shared (named 1) (κs .1 .0) u8, (shared (named 2) (κs .1 .1 .0) u32, (truth .spelled, (number w64 .spelled, tt)))),
+        (shared (named 1) (κs .1 .0) u8, (shared (named 2) (κs .1 .1 .0) u32, (number w8 .spelled, (number w64 .spelled, tt)))),
       ))
       (λ κs qs b a g are are-typed.
       let xs : List Entry = now (a .0) in
       let slice : Val = sliceVal (a .0 .ptr) (length xs) in
-      let at : Vals receive.signature κs = (
-        slice ∷ [],
-        (
-          sliceVal (a .1 .0 .ptr) (length (now (a .1 .0))) ∷ [],
-          (sliceVal (a .1 .1 .0 .ptr) (length (now (a .1 .1 .0))) ∷ [], (vbool (a .1 .1 .1 .0) ∷ [], (vint w64 (a .1 .1 .1 .1 .0) ∷ [], tt))),
-        ),
-      ) in
+      let packet : Val = sliceVal (a .1 .0 .ptr) (length (now (a .1 .0))) in
+      let keys : Val = sliceVal (a .1 .1 .0 .ptr) (length (now (a .1 .1 .0))) in
+      let verdict : Bool = isSet (a .1 .1 .1 .0) in
+      let clock : ℕ = a .1 .1 .1 .1 .0 in
+      let at : Vals receive.signature κs = (slice ∷ [], (packet ∷ [], (keys ∷ [], (vint w8 (a .1 .1 .1 .0) ∷ [], (vint w64 clock ∷ [], tt))))) in
       qed W ((‵ (flft (κs .0) (qs .0)) ⊛ (‵ (flft (κs .1 .0) (qs .1 .0)) ⊛ (‵ (flft (κs .1 .1 .0) (qs .1 .1 .0)) ⊛ ‵ ftrue))) ∷ ‵
       (owns (typesAt (receive.signature .params) κs) a at) ∷ []) ∵ enters ! code.function _ (λ _. are-typed) (λ bs.
-      move ! (21 ∷ []) $ fsplit ! $ move ! (22 ∷ []) $ split ! $ move ! (1 ∷ 3 ∷ []) $ join ! $
+      sets ! 8 refl (bin ! (local ! 4 refl) (lit ! tt) tt) (tt, tt) $
+      -- of the parameters, the packet and the keys, and beside them the verdict and the clock
+      move ! (23 ∷ []) $ fsplit ! $ move ! (1 ∷ []) $ fsplit ! $ move ! (1 ∷ []) $ fsplit ! $ move ! (1 ∷ []) $ drop ! $
+      beside ! (bool ∷ u64 ∷ []) (truth, (number w64, tt)) (verdict, (clock, tt)) (refl, ((refl, are .1 .1 .1 .1 .0 .1), tt)) $
+      move ! (1 ∷ 0 ∷ []) $ fjoin ! $ move ! (24 ∷ []) $ split ! $ move ! (1 ∷ 2 ∷ []) $ join ! $
       -- what `check` is given; the entries' token; the entries; local k at k + 3
-      calls-some ! 𝓣 check.ended (check.clauses 𝓤 H A mem run) checks ((κs .1, qs .1, tt, a .1, at .1), tt) (id⊢ 𝓤 _) (id⊢ 𝓤 _) checked
-      (λ c ws. checkedAnswer c ≡ andThen (packetOf (now (a .1 .0))) (rules (now (a .1 .1 .0)) (a .1 .1 .1 .0) (a .1 .1 .1 .1 .0))) (λ c ws. id⊢ 𝓤 _)
-      (and-then ! (local ! 5 refl) (and-then ! (local ! 6 refl) (and-then ! (local ! 7 refl) (and-then ! (local ! 8 refl) (no-more !))))) (λ c _ e good.
-      lands-in ! 10 refl (typed 𝓤 H A W checked c good .0) $ sets ! 12 refl (addr !
+      calls-some ! 𝓣 check.ended (check.clauses 𝓤 H A mem run) checks (
+        (
+          κs .1,
+          qs .1,
+          tt,
+          (a .1 .0, (a .1 .1 .0, (verdict, (clock, tt)))),
+          (packet ∷ [], (keys ∷ [], (vbool verdict ∷ [], (vint w64 clock ∷ [], tt)))),
+        ),
+        tt,
+      ) (id⊢ 𝓤 _) (id⊢ 𝓤 _) checked
+      (λ c ws. checkedAnswer c ≡ andThen (packetOf (now (a .1 .0))) (rules (now (a .1 .1 .0)) verdict clock)) (λ c ws. id⊢ 𝓤 _)
+      (and-then ! (local ! 5 refl) (and-then ! (local ! 6 refl) (and-then ! (local ! 11 refl) (and-then ! (local ! 8 refl) (no-more !)))))
+      (λ c _ e good. lands-in ! 10 refl (typed 𝓤 H A W checked c good .0) $ sets ! 13 refl (addr !
       (from ! (fld ! refl (hop ! (look-in ! 5 (sub ! 0 refl (whole !))) (stop !))))) (tt, tt) $
-      sets ! 13 refl (agg ! (and-then ! (local ! 12 refl) (and-then ! (part ! 5 refl (sub ! 1 refl (whole !))) (no-more !))))
+      sets ! 14 refl (agg ! (and-then ! (local ! 13 refl) (and-then ! (part ! 5 refl (sub ! 1 refl (whole !))) (no-more !))))
       (tt, (tt, (record { fits = are .0 .0 .1 .0 }, tt))) $
       move ! (3 ∷ []) $ beside ! (K.the-row ∷ []) (checked, tt) (c, tt) (good, tt) $ nothing ! $ move ! (4 ∷ 0 ∷ 1 ∷ []) $ join ! $ join ! $
       -- what `answer` is given; the other tokens; true; local k at k + 3
@@ -82,13 +93,13 @@ module _ {M : Type 1} (𝓤 : URA M) (H : Heap 𝓤) (A : Atoms 𝓤) (W : Given
       (((κs .0, tt), (qs .0, tt), tt, (a .0, (c, tt)), (slice ∷ [], (checked .spelled .val c ∷ [], tt))), tt) (id⊢ 𝓤 _) (id⊢ 𝓤 _)
       receipt (λ r ws. (receiptAnswer r ≡ answered xs (checkedAnswer c) .answer) × (ws .0 ≡ answered xs (checkedAnswer c) .entries))
       (λ r ws. id⊢ 𝓤 _)
-      (and-then ! (local ! 12 refl) (and-then ! (local ! 9 refl) (no-more !))) (λ r ws said made.
-      let is-o = answer-and-entries (received-is xs (now (a .1 .0)) (now (a .1 .1 .0)) (a .1 .1 .1 .0) (a .1 .1 .1 .1 .0) c e) in
+      (and-then ! (local ! 13 refl) (and-then ! (local ! 9 refl) (no-more !))) (λ r ws said made.
+      let is-o = answer-and-entries (received-is xs (now (a .1 .0)) (now (a .1 .1 .0)) verdict clock c e) in
       lands-in ! 11 refl (typed 𝓤 H A W receipt r made .0) $
       calls-plain ! 𝓣 counting.ended (counting.clauses 𝓤 H A mem run) counts tt tt tt (r, tt) tt (id⊢ 𝓤 _) (id⊢ 𝓤 _) (receipt, tt) (made, tt)
       (number w8) (answerNumber (receiptAnswer r)) (λ r ws. id⊢ 𝓤 _) (and-then ! (local ! 12 refl) (no-more !)) (λ small.
       lands-in ! 4 refl (typed 𝓤 H A W (number w8) (answerNumber (receiptAnswer r)) small .0) $
-      leaves ! (_ ∷ _ ∷ _ ∷ _ ∷ []) _ (holds _ ∷ holds _ ∷ holds _ ∷ holds _ ∷ holds _ ∷ holds _ ∷ holds _ ∷ holds _ ∷ holds _ ∷ []) [] $
+      leaves ! (_ ∷ _ ∷ _ ∷ _ ∷ []) _ (holds _ ∷ holds _ ∷ holds _ ∷ holds _ ∷ holds _ ∷ holds _ ∷ holds _ ∷ holds _ ∷ holds _ ∷ holds _ ∷ []) [] $
       -- the entries' token; what is said of their last list; the other tokens; true
       move ! (1 ∷ []) $ fsplit ! $ fsplit ! $ move ! (1 ∷ []) $ feqL ! (λ long. use0 W (‵ (nothings (others (receive.signature .params))))
       (had 𝓤 H A W (others (receive.signature .params))) $ move ! (1 ∷ 0 ∷ []) $ fjoin ! $
