@@ -35,15 +35,20 @@ at n i = getD n i 0
 abbrev pub isFlag : ℕ → Bool
 isFlag k = leb k 1
 
--- part 0 of 0 has no facts of its own: what its other numbers are doesn't matter; nor does the lasting
--- time where none is stated, as long as it fits 32 bits
+-- "part 0 ... holds the facts its sentence says and no others": the numbers of a part are all 0
 abbrev pub hasNoPart : List ℕ → Bool
-hasNoPart n = eqb (at n 4) 0 && eqb (at n 5) 0
+hasNoPart n =
+    eqb (at n 4) 0 && eqb (at n 5) 0 && eqb (at n 6) 0 && eqb (at n 7) 0 && eqb (at n 8) 0 && eqb (at n 9) 0 && eqb (at n 10) 0
 
+-- a lasting time is stated and fits 32 bits, or isn't stated and is 0
+abbrev pub areLasting : ℕ → ℕ → Bool
+areLasting stated seconds = (eqb stated 1 && ltb seconds 0x1_0000_0000) || (eqb stated 0 && eqb seconds 0)
+
+-- any other numbers are those of a part; a part 0 of 0 among them is out of range
 unfoldable pub arePart : List ℕ → Bool
 arePart n =
     ltb (at n 4) 0x100 && ltb (at n 5) 0x100 && isNumber list.urgency (at n 6) && isNumber list.severity (at n 7)
-    && isNumber list.certainty (at n 8) && isFlag (at n 9) && ltb (at n 10) 0x1_0000_0000
+    && isNumber list.certainty (at n 8) && areLasting (at n 9) (at n 10)
 
 -- numbers that stand for a CAP sheet, in range or not
 unfoldable pub areCap : List ℕ → Bool
