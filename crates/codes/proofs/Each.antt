@@ -1,14 +1,17 @@
 -- A rule of codes, tested once over the numbers of all lists.
 use mathlib.Core.Path.{_≡_, _∙_}
 use mathlib.Core.Bool.{Bool, true, cond, false≢true}
+use mathlib.Core.List.{[], _∷_}
 use Prim.Native.Nat.{ℕ, _<_}
 use native.Mathlib.Omega.{arith}
 use lib.Dec.{T, leb, ltb, eqb}
-use lib.ListN.{length}
+use lib.ListN.{length, getD}
 use borrow.Author.Tests.{leb-true, eqb-true, ltb-true, ltb-false}
 use Rattle.text.specs.Logic.{by-test, and-right, true-T, below, below-at}
 use Rattle.text.specs.Search.{find}
 use Rattle.codes.specs.Lists.{lists, codes, isNumber, smallCodeOf, smallText}
+use Rattle.codes.specs.Values.{messageNumber, statusNumber, scopeNumber, urgencyNumber, severityNumber, certaintyNumber}
+use Rattle.codes.specs.Values.{messageAt, statusAt, scopeAt, urgencyAt, severityAt, certaintyAt}
 use Rattle.codes.proofs.Table.{no-list, no-number}
 
 -- no list has more than 12 codes
@@ -43,3 +46,19 @@ isRead l k = eqb (smallCodeOf l (smallText l k)) k
 pub small-read : (l k : ℕ) → isNumber l k ≡ true → smallCodeOf l (smallText l k) ≡ k
 unfolding lists isNumber smallCodeOf smallText find isRead
 small-read l k n = eqb-true (smallCodeOf l (smallText l k)) k (each-at isRead tt l k n)
+
+-- the number of the value that the number k gives, by the list; there are no values of categories and of response types
+abbrev pub numberBack : ℕ → ℕ → ℕ
+numberBack l k =
+    getD
+    (statusNumber (statusAt k) ∷ messageNumber (messageAt k) ∷ scopeNumber (scopeAt k) ∷ k ∷ k ∷ urgencyNumber (urgencyAt k) ∷
+    severityNumber (severityAt k) ∷ certaintyNumber (certaintyAt k) ∷ [])
+    l k
+
+isBack : ℕ → ℕ → Bool
+isBack l k = eqb (numberBack l k) k
+
+-- each number of a list is that of its value
+pub number-back : (l k : ℕ) → isNumber l k ≡ true → numberBack l k ≡ k
+unfolding lists isNumber isBack
+number-back l k n = eqb-true (numberBack l k) k (each-at isBack tt l k n)

@@ -1,17 +1,18 @@
 -- The numbers of a sheet stand for that sheet: a caller who hands the numbers that it got from a text on to the writer writes the same sheet.
 use mathlib.Core.Path.{_≡_, refl}
-use mathlib.Core.Bool.{Bool, true, false, not, _&&_}
+use mathlib.Core.Bool.{Bool, true, false, _&&_}
 use mathlib.Core.List.{List, [], _∷_}
 use Prim.Native.Nat.{ℕ, _<_}
 use native.Mathlib.Omega.{arith}
 use lib.Dec.{eqb, ltb, leb}
-use borrow.Author.Tests.{leb-true, lt-ltb, ne-eqb, not-true}
+use borrow.Author.Tests.{leb-true, lt-ltb, ne-eqb}
 use Rattle.text.specs.Logic.{and-left, and-right, and-comm}
 use Rattle.text.specs.Answers.{gives}
 use Rattle.words.specs.Duration.{isLasting}
 use Rattle.codes.specs.declared.MessageType.{MessageType}
 use Rattle.codes.specs.declared.Status.{Status}
 use Rattle.codes.specs.declared.Scope.{Scope}
+use Rattle.codes.specs.declared.Urgency.{Urgency}
 use Rattle.sheet.specs.declared.Lasting.{Lasting}
 use Rattle.sheet.specs.declared.Lasting.the-variants.{Unstated, Seconds}
 use Rattle.sheet.specs.declared.Part.{Part}
@@ -22,42 +23,42 @@ use Rattle.sheet.specs.declared.WarnFacts.{WarnFacts}
 use Rattle.sheet.specs.declared.Span.{Span}
 use Rattle.sheet.specs.declared.Found.{Found}
 use Rattle.sheet.specs.declared.Found.the-variants as found
-use Rattle.codes.specs.Values.{messageNumber, statusNumber, scopeNumber}
+use Rattle.codes.specs.Lists.{isNumber}
+use Rattle.codes.specs.Values.{messageNumber, statusNumber, scopeNumber, urgencyNumber}
 use Rattle.codes.proofs.Numbers.{message-numbers, status-numbers, scope-numbers, urgency-numbers, severity-numbers, certainty-numbers}
 use Rattle.sheet.specs.Sheet.{warn, isLastingTime, isParts, fitsPacket, inRange}
 use Rattle.sheet.specs.Reading.{sheetIn}
 use Rattle.sheet.proofs.Limits.{lasting-range, warn-range}
-use Rattle.numbers.specs.Numbers.{isFlag, arePart, areCap, lastingFrom, partFrom, capFrom, senderFrom, nameFrom}
+use Rattle.numbers.specs.Numbers.{areLasting, arePart, areCap, lastingFrom, partFrom, capFrom, senderFrom, nameFrom}
 use Rattle.numbers.specs.Numbers.{areWarn, warnFrom, numbersSheet, statedOf, secondsOf, numbersOfNone, numbersOfPart, withParts, capNumbers, warnNumbers, numbersOf}
 use Rattle.numbers.proofs.Tests.{joined-at}
 use Rattle.numbers.proofs.Flags.{flag-is, flag-back}
 
 -- ---- CAP
 
--- a part's facts fit their numbers; part 0 of 0 is no part
+-- a part's facts fit their numbers
 unfoldable pub fitsNumbers : Parts → Bool
 fitsNumbers NoPart = true
-fitsNumbers (OnePart p) =
-    not (eqb (p .number) 0 && eqb (p .total) 0) && ltb (p .number) 0x100 && ltb (p .total) 0x100 && ltb (secondsOf (p .lasting)) 0x1_0000_0000
+fitsNumbers (OnePart p) = ltb (p .number) 0x100 && ltb (p .total) 0x100 && ltb (secondsOf (p .lasting)) 0x1_0000_0000
 
 part-tests :
     (p : Part) → fitsNumbers (OnePart p) ≡ true
-    → (eqb (p .number) 0 && eqb (p .total) 0 ≡ false)
-    × (ltb (p .number) 0x100 ≡ true)
-    × (ltb (p .total) 0x100 ≡ true)
-    × (ltb (secondsOf (p .lasting)) 0x1_0000_0000 ≡ true)
+    → (ltb (p .number) 0x100 ≡ true) × (ltb (p .total) 0x100 ≡ true) × (ltb (secondsOf (p .lasting)) 0x1_0000_0000 ≡ true)
 unfolding fitsNumbers
 part-tests p e =
-    let passed =
-    joined-at true
-    (not (eqb (p .number) 0 && eqb (p .total) 0) ∷ ltb (p .number) 0x100 ∷ ltb (p .total) 0x100 ∷ ltb (secondsOf (p .lasting)) 0x1_0000_0000 ∷ [])
-    e
-    in
-    (not-true (eqb (p .number) 0 && eqb (p .total) 0) (passed 0), passed 1, passed 2, passed 3)
+    let passed = joined-at true (ltb (p .number) 0x100 ∷ ltb (p .total) 0x100 ∷ ltb (secondsOf (p .lasting)) 0x1_0000_0000 ∷ []) e in
+    (passed 0, passed 1, passed 2)
 
-stated-is : (x : Lasting) → isFlag (statedOf x) ≡ true
-stated-is Unstated = refl
-stated-is (Seconds s) = refl
+-- a part has an urgency, whose number is not 0
+urgency-some : (t : Bool) (x : Urgency) → t && eqb (urgencyNumber x) 0 ≡ false
+unfolding isNumber
+urgency-some t x =
+    let some = leb-true 1 (urgencyNumber x) (and-left _ _ (urgency-numbers x .listed)) in
+    rw (ne-eqb (urgencyNumber x) 0 (λ z. omega arith), and-comm t false)
+
+lasting-are : (x : Lasting) → ltb (secondsOf x) 0x1_0000_0000 ≡ true → areLasting (statedOf x) (secondsOf x) ≡ true
+lasting-are Unstated e = refl
+lasting-are (Seconds s) e = rw e
 
 lasting-back : (x : Lasting) → lastingFrom (statedOf x) (secondsOf x) ≡ x
 lasting-back Unstated = refl
@@ -74,14 +75,13 @@ module _ (x : MessageType) (y : Status) (z : Scope) (sender name : Span) where
         message-numbers x .listed,
         status-numbers y .listed,
         scope-numbers z .listed,
+        urgency-some (eqb (p .number) 0 && eqb (p .total) 0) (p .urgency),
         t .0,
         t .1,
-        t .2,
         urgency-numbers (p .urgency) .listed,
         severity-numbers (p .severity) .listed,
         certainty-numbers (p .certainty) .listed,
-        stated-is (p .lasting),
-        t .3,
+        lasting-are (p .lasting) (t .2),
       )
 
   parts-back :
@@ -95,7 +95,7 @@ module _ (x : MessageType) (y : Status) (z : Scope) (sender name : Span) where
         message-numbers x .back,
         status-numbers y .back,
         scope-numbers z .back,
-        part-tests p e .0,
+        urgency-some (eqb (p .number) 0 && eqb (p .total) 0) (p .urgency),
         urgency-numbers (p .urgency) .back,
         severity-numbers (p .severity) .back,
         certainty-numbers (p .certainty) .back,
@@ -134,11 +134,9 @@ unfolding isParts fitsNumbers
 range-fits NoPart e = refl
 range-fits (OnePart p) e =
     let passed = joined-at true (leb 1 (p .number) ∷ leb (p .number) (p .total) ∷ leb (p .total) 16 ∷ isLastingTime (p .lasting) ∷ []) e in
-    let some = leb-true 1 (p .number) (passed 0) in
     let within = leb-true (p .number) (p .total) (passed 1) in
     let few = leb-true (p .total) 16 (passed 2) in
     rw (
-      ne-eqb (p .number) 0 (λ z. omega arith),
       lt-ltb (p .number) 0x100 (omega arith),
       lt-ltb (p .total) 0x100 (omega arith),
       lt-ltb (secondsOf (p .lasting)) 0x1_0000_0000 (seconds-fit (p .lasting) (passed 3)),

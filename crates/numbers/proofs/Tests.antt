@@ -3,13 +3,14 @@ use mathlib.Core.Path.{_≡_, refl}
 use mathlib.Core.Bool.{Bool, true, false, _&&_, _||_}
 use mathlib.Core.List.{List, [], _∷_}
 use Prim.Native.Nat.{ℕ, zero, suc, _<_}
+use native.Mathlib.Omega.{arith}
 use lib.Dec.{eqb, ltb}
 use lib.ListN.{getD}
-use borrow.Author.Tests.{ltb-true}
-use Rattle.text.specs.Logic.{and-left, and-right}
+use borrow.Author.Tests.{eqb-true, ltb-true}
+use Rattle.text.specs.Logic.{by-test, and-left, and-right}
 use Rattle.codes.specs.Lists as list
 use Rattle.codes.specs.Lists.{isNumber}
-use Rattle.numbers.specs.Numbers.{at, isFlag, hasNoPart, arePart, areCap, areWarn}
+use Rattle.numbers.specs.Numbers.{at, isFlag, hasNoPart, areLasting, arePart, areCap, lastingFrom, areWarn, statedOf, secondsOf}
 
 -- ---- many tests, one after the other
 
@@ -28,41 +29,98 @@ joined-at t [] e i = refl
 joined-at t (s ∷ l) e zero = and-right t s (joined-first (t && s) l e)
 joined-at t (s ∷ l) e (suc i) = joined-at (t && s) l e i
 
+-- ---- a lasting time
+
+-- two numbers that stand for one fit its fields, and are its numbers
+pub record LastingTold (stated seconds : ℕ) : Type 0 where
+  pub fits : seconds < 0x1_0000_0000
+  pub stated-back : statedOf (lastingFrom stated seconds) ≡ stated
+  pub seconds-back : secondsOf (lastingFrom stated seconds) ≡ seconds
+
+pub lasting-told : (stated seconds : ℕ) → areLasting stated seconds ≡ true → LastingTold stated seconds
+lasting-told stated seconds e =
+    by-test (eqb stated 1 && ltb seconds 0x1_0000_0000)
+    (λ f.
+    let one = eqb-true stated 1 (and-left (eqb stated 1) (ltb seconds 0x1_0000_0000) f) in
+    record {
+      fits = ltb-true seconds 0x1_0000_0000 (and-right (eqb stated 1) (ltb seconds 0x1_0000_0000) f);
+      stated-back = rw one;
+      seconds-back = rw one;
+    })
+    (λ f.
+    let none = rw f at e in
+    let zero-stated = eqb-true stated 0 (and-left (eqb stated 0) (eqb seconds 0) none) in
+    let zero-seconds = eqb-true seconds 0 (and-right (eqb stated 0) (eqb seconds 0) none) in
+    record { fits = omega arith; stated-back = rw zero-stated; seconds-back = rw (zero-stated, zero-seconds) })
+
 -- ---- a part
 
--- its numbers fit its fields
-pub record PartWidth (n : List ℕ) : Type 0 where
+-- its numbers fit its fields, and those of codes are in their lists
+pub record PartTold (n : List ℕ) : Type 0 where
   pub number : at n 4 < 0x100
   pub total : at n 5 < 0x100
-  pub seconds : at n 10 < 0x1_0000_0000
+  pub urgency : isNumber list.urgency (at n 6) ≡ true
+  pub severity : isNumber list.severity (at n 7) ≡ true
+  pub certainty : isNumber list.certainty (at n 8) ≡ true
+  pub lasting : LastingTold (at n 9) (at n 10)
 
-pub part-width : (n : List ℕ) → arePart n ≡ true → PartWidth n
+pub part-told : (n : List ℕ) → arePart n ≡ true → PartTold n
 unfolding arePart
-part-width n e =
+part-told n e =
     let passed =
     joined-at true
     (ltb (at n 4) 0x100 ∷ ltb (at n 5) 0x100 ∷ isNumber list.urgency (at n 6) ∷ isNumber list.severity (at n 7)
-    ∷ isNumber list.certainty (at n 8) ∷ isFlag (at n 9) ∷ ltb (at n 10) 0x1_0000_0000 ∷ [])
+    ∷ isNumber list.certainty (at n 8) ∷ areLasting (at n 9) (at n 10) ∷ [])
     e
     in
     record {
       number = ltb-true (at n 4) 0x100 (passed 0);
       total = ltb-true (at n 5) 0x100 (passed 1);
-      seconds = ltb-true (at n 10) 0x1_0000_0000 (passed 6);
+      urgency = passed 2;
+      severity = passed 3;
+      certainty = passed 4;
+      lasting = lasting-told (at n 9) (at n 10) (passed 5);
     }
 
--- numbers of a CAP sheet that has a part stand for the part
-pub part-there : (n : List ℕ) → areCap n ≡ true → hasNoPart n ≡ false → arePart n ≡ true
+-- ---- a CAP sheet
+
+-- its kind is CAP's, and its numbers of codes are in their lists
+pub record CapTold (n : List ℕ) : Type 0 where
+  pub first : at n 0 ≡ 1
+  pub message : isNumber list.msgType (at n 1) ≡ true
+  pub status : isNumber list.status (at n 2) ≡ true
+  pub scope : isNumber list.scope (at n 3) ≡ true
+  pub parts : hasNoPart n || arePart n ≡ true
+
+pub cap-told : (n : List ℕ) → areCap n ≡ true → CapTold n
 unfolding areCap
-part-there n e h =
-    rw h at
-    (and-right (eqb (at n 0) 1 && isNumber list.msgType (at n 1) && isNumber list.status (at n 2) && isNumber list.scope (at n 3))
-    (hasNoPart n || arePart n) e)
+cap-told n e =
+    let passed =
+    joined-at true
+    (eqb (at n 0) 1 ∷ isNumber list.msgType (at n 1) ∷ isNumber list.status (at n 2) ∷ isNumber list.scope (at n 3) ∷ (hasNoPart n || arePart n) ∷ [])
+    e
+    in
+    record {
+      first = eqb-true (at n 0) 1 (passed 0);
+      message = passed 1;
+      status = passed 2;
+      scope = passed 3;
+      parts = passed 4;
+    }
+
+-- one that has a part has numbers that stand for the part
+pub part-there : (n : List ℕ) → areCap n ≡ true → hasNoPart n ≡ false → arePart n ≡ true
+part-there n e h = rw h at (cap-told n e .parts)
 
 -- ---- a WARN sheet
 
--- its numbers fit its fields
-pub record WarnWidth (n : List ℕ) : Type 0 where
+-- its kind is WARN's, its flags are 0 or 1, and its numbers fit its fields
+pub record WarnTold (n : List ℕ) : Type 0 where
+  pub first : at n 0 ≡ 2
+  pub urgent : isFlag (at n 1) ≡ true
+  pub update : isFlag (at n 2) ≡ true
+  pub cancel : isFlag (at n 3) ≡ true
+  pub test : isFlag (at n 4) ≡ true
   pub event : at n 5 < 0x1_0000_0000
   pub number : at n 6 < 0x1_0000
   pub origin : at n 7 < 0x1_0000_0000
@@ -74,9 +132,9 @@ pub record WarnWidth (n : List ℕ) : Type 0 where
   pub certainty : at n 13 < 0x100
   pub response : at n 14 < 0x100
 
-pub warn-width : (n : List ℕ) → areWarn n ≡ true → WarnWidth n
+pub warn-told : (n : List ℕ) → areWarn n ≡ true → WarnTold n
 unfolding areWarn
-warn-width n e =
+warn-told n e =
     let passed =
     joined-at true
     (eqb (at n 0) 2 ∷ isFlag (at n 1) ∷ isFlag (at n 2) ∷ isFlag (at n 3) ∷ isFlag (at n 4)
@@ -85,6 +143,11 @@ warn-width n e =
     e
     in
     record {
+      first = eqb-true (at n 0) 2 (passed 0);
+      urgent = passed 1;
+      update = passed 2;
+      cancel = passed 3;
+      test = passed 4;
       event = ltb-true (at n 5) 0x1_0000_0000 (passed 5);
       number = ltb-true (at n 6) 0x1_0000 (passed 6);
       origin = ltb-true (at n 7) 0x1_0000_0000 (passed 7);

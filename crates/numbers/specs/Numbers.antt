@@ -3,6 +3,7 @@
 --         start and length of the sender in a text, start and length of the name in it
 --   WARN: the flags urgent, update, cancel, test, then event, number, origin, lasting time, hazard, kind, urgency, severity, certainty, response
 -- CAP codes are numbered from 1 in the order of the schema's lists; a fact that is or isn't so is 1 or 0.
+-- Each sheet has one form: the numbers that stand for it are its numbers (proofs/OneForm.antt).
 use mathlib.Core.Bool.{Bool, true, false, cond, _&&_, _||_}
 use mathlib.Core.List.{List, [], _∷_}
 use Prim.Native.Nat.{ℕ}
@@ -35,15 +36,20 @@ at n i = getD n i 0
 abbrev pub isFlag : ℕ → Bool
 isFlag k = leb k 1
 
--- part 0 of 0 has no facts of its own: what its other numbers are doesn't matter; nor does the lasting
--- time where none is stated, as long as it fits 32 bits
+-- "A sheet holds the facts its sentence says and no others": part 0 of 0 has no urgency, severity, certainty and lasting time
 abbrev pub hasNoPart : List ℕ → Bool
-hasNoPart n = eqb (at n 4) 0 && eqb (at n 5) 0
+hasNoPart n =
+    eqb (at n 4) 0 && eqb (at n 5) 0 && eqb (at n 6) 0 && eqb (at n 7) 0 && eqb (at n 8) 0 && eqb (at n 9) 0 && eqb (at n 10) 0
 
+-- a lasting time is stated and fits 32 bits, or isn't stated and is 0
+abbrev pub areLasting : ℕ → ℕ → Bool
+areLasting stated seconds = (eqb stated 1 && ltb seconds 0x1_0000_0000) || (eqb stated 0 && eqb seconds 0)
+
+-- numbers that stand for a part, in range or not: a part 0 of 0 with facts of a part is out of range
 unfoldable pub arePart : List ℕ → Bool
 arePart n =
     ltb (at n 4) 0x100 && ltb (at n 5) 0x100 && isNumber list.urgency (at n 6) && isNumber list.severity (at n 7)
-    && isNumber list.certainty (at n 8) && isFlag (at n 9) && ltb (at n 10) 0x1_0000_0000
+    && isNumber list.certainty (at n 8) && areLasting (at n 9) (at n 10)
 
 -- numbers that stand for a CAP sheet, in range or not
 unfoldable pub areCap : List ℕ → Bool

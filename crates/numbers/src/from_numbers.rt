@@ -12,7 +12,7 @@ ghost use mathlib.Core.Path.{_≡_};
 ghost use mathlib.Core.Bool.{true};
 ghost use Prim.Native.Nat.{_<_};
 ghost use Rattle.codes.specs.Lists.{isNumber};
-ghost use Rattle.numbers.specs.Numbers.{isFlag, hasNoPart, arePart, areCap, lastingFrom, partFrom, capFrom, senderFrom, nameFrom};
+ghost use Rattle.numbers.specs.Numbers.{isFlag, hasNoPart, areLasting, arePart, areCap, lastingFrom, partFrom, capFrom, senderFrom, nameFrom};
 ghost use Rattle.numbers.specs.Numbers.{areWarn, warnFrom};
 
 // Whether a list of codes has a number.
@@ -28,11 +28,18 @@ fn is_flag(k: u64) -> bool
     k <= 1
 }
 
-// Whether numbers say that there is no part.
+// Whether numbers say that there is no part, and nothing of one.
 fn has_no_part(n: &[u64; 15]) -> bool
     ensures { λ r. ⌜ r ≡ hasNoPart (now (n .entry)) ⌝ }
 {
-    (n[4] == 0) & (n[5] == 0)
+    (n[4] == 0) & (n[5] == 0) & (n[6] == 0) & (n[7] == 0) & (n[8] == 0) & (n[9] == 0) & (n[10] == 0)
+}
+
+// Whether two numbers stand for a lasting time: one that isn't stated is 0.
+fn are_lasting(stated: u64, seconds: u64) -> bool
+    ensures { λ r. ⌜ r ≡ areLasting stated seconds ⌝ }
+{
+    ((stated == 1) & (seconds < 0x1_0000_0000)) | ((stated == 0) & (seconds == 0))
 }
 
 // Whether numbers stand for a part.
@@ -44,8 +51,7 @@ fn are_part(n: &[u64; 15]) -> bool
         & is_code(list::URGENCY, n[6])
         & is_code(list::SEVERITY, n[7])
         & is_code(list::CERTAINTY, n[8])
-        & is_flag(n[9])
-        & (n[10] < 0x1_0000_0000)
+        & are_lasting(n[9], n[10])
 }
 
 // Whether numbers stand for a CAP sheet.

@@ -36,8 +36,8 @@ pub data Run {X : Type 0} (One : X → List ℕ → ℕ → Answer ℕ → List 
       {x : X} {xs : List X} {r : Answer ℕ} {rs : List (Answer ℕ)} {d m e : List ℕ} {at end : ℕ}
       → One x d at r m → Run One xs rs m (nextStart at r) e end → Run One (x ∷ xs) (r ∷ rs) d at e end
 
--- the sheets whose answers are no refusals, in their order
-unfoldable pub notRefused : List Sheet → List (Answer ℕ) → List Sheet
+-- those whose answers are no refusals, in their order
+unfoldable pub notRefused : {X : Type 0} → List X → List (Answer ℕ) → List X
 notRefused [] rs = []
 notRefused (x ∷ xs) [] = []
 notRefused (x ∷ xs) (gives end ∷ rs) = x ∷ notRefused xs rs

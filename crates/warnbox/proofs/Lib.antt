@@ -3,3 +3,4 @@ pub mod Places
 pub mod InText
 mod TableTypes
 pub mod Demand3
+pub mod Drawn

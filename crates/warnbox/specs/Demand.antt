@@ -1,22 +1,26 @@
 -- Demand 3 of the request for `warnbox_write`, which takes sheets as numbers: every run of its calls is a run of calls of the writer.
 -- proofs/Demand3.antt proves it.
 use mathlib.Core.Path.{_≡_}
-use mathlib.Core.Bool.{false}
-use mathlib.Core.List.{List, map}
+use mathlib.Core.Bool.{false, cond}
+use mathlib.Core.List.{List, [], map}
 use Prim.Native.Nat.{ℕ, zero, suc}
+use lib.Dec.{eqb}
+use lib.ListN.{length, take}
 use Rattle.text.specs.Answers.{Answer, gives, refuses}
 use Rattle.text.specs.Parts.{part}
 use Rattle.sheet.specs.declared.Found.{Found}
 use Rattle.sheet.specs.Sheet.{Sheet, warn}
-use Rattle.sheet.specs.Reading.{sheetIn}
+use Rattle.sheet.specs.Reading.{spanIn, sheetIn}
 use Rattle.sheet.specs.Demand.{Call, Run, notRefused, Writes}
+use Rattle.numbers.specs.Numbers.{at, senderFrom, nameFrom}
 use Rattle.warnbox.specs.Replies.{reply}
 use Rattle.warnbox.specs.Sentences.{sentenceOf, afterSentence, handedIn}
 
--- a sheet as it is handed in: the text that holds its sender and name, and its numbers
+-- a sheet as it is handed in: the text that holds its sender and name, and its 15 numbers
 pub record Handed : Type 0 where
   pub text : List ℕ
   pub numbers : List ℕ
+  pub fifteen : length numbers ≡ 15
 
 -- the answer that a number and a value stand for
 abbrev pub answerOf : (number value : ℕ) → Answer ℕ
@@ -61,6 +65,22 @@ sheetGiven t (refuses n p) = noSheet
 abbrev pub sheetOf : Handed → Sheet
 sheetOf h = sheetGiven (h .text) (handedIn (h .text) (h .numbers))
 
+-- what is handed in says: its facts as numbers, and for CAP the sender and the name; WARN has neither
+pub record Said : Type 0 where
+  pub facts : List ℕ
+  pub sender : List ℕ
+  pub name : List ℕ
+
+-- each number is a fact, but for CAP's last four: where in the text the sender and the name stand
+abbrev pub saidIn : (text numbers : List ℕ) → Said
+saidIn t n =
+    cond (eqb (at n 0) 1)
+    (record { facts = take 11 n; sender = spanIn t (senderFrom n); name = spanIn t (nameFrom n) })
+    (record { facts = n; sender = []; name = [] })
+
+abbrev pub said : Handed → Said
+said h = saidIn (h .text) (h .numbers)
+
 pub record Demand3 : Type 0 where
   pub lifts :
       {hs : List Handed} {rs : List (Answer ℕ)} {d e : List ℕ} {at end : ℕ}
@@ -74,3 +94,8 @@ pub record Demand3 : Type 0 where
       {hs is : List Handed} {rs qs : List (Answer ℕ)} {d c e f : List ℕ} {at start end last : ℕ}
       → Run WriteCall hs rs d at e end → Run WriteCall is qs c start f last → part e at end ≡ part f start last
       → notRefused (map sheetOf hs) rs ≡ notRefused (map sheetOf is) qs
+  -- handed in as the same numbers with the same sender and name: only where in the text these stand may differ
+  pub same-said :
+      {hs is : List Handed} {rs qs : List (Answer ℕ)} {d c e f : List ℕ} {at start end last : ℕ}
+      → Run WriteCall hs rs d at e end → Run WriteCall is qs c start f last → part e at end ≡ part f start last
+      → map said (notRefused hs rs) ≡ map said (notRefused is qs)

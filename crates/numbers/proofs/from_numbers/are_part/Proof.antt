@@ -11,11 +11,11 @@ returns c =
       c .before .before .before .before .before .before .before .is-code .ensures,
       c .before .before .before .before .before .is-code2 .ensures,
       c .before .before .before .is-code3 .ensures,
-      c .before .is-flag .ensures,
+      c .are-lasting .ensures,
     )
 
 pub are-part-spec : {M : Type 1} → statement M
 are-part-spec =
     tie.close
     (tie.spec (λ c. search needs) (λ c. search needs) (λ c. search needs) (λ c κs. search needs) (λ c. search needs) (λ c κs. search needs)
-    (λ c. search needs) (λ c κs. search needs) (λ c. search needs) (λ c κs. search needs) (λ c. search needs) returns)
+    (λ c. search needs) (λ c κs. search needs) (λ c. search needs) (λ c. search needs) (λ c κs. search needs) returns)
