@@ -3,11 +3,13 @@ use crate::Reply;
 use document::Check;
 use packet::PacketPlace;
 use parts::CapPlace;
+use refusals::WriteName;
 use sheet::ReadBack;
 use sheet::WriteSheet;
 ghost use mathlib.Core.Path.{_≡_};
 ghost use mir.Val.{boolByte};
 ghost use Rattle.text.specs.Answers.{refuses, giving};
+ghost use Rattle.refusals.specs.Names.{nameAnswer};
 ghost use Rattle.sheet.specs.Answers.{writeAnswer, readAnswer};
 ghost use Rattle.packet.specs.Packet as packet;
 ghost use Rattle.document.specs.Documents.{checkAnswer};
@@ -126,6 +128,25 @@ pub fn read_reply(answer: ReadBack) -> Reply
         },
         ReadBack::NotThere => Reply {
             number: 21,
+            value: 0,
+        },
+    }
+}
+
+pub fn name_reply(answer: WriteName) -> Reply
+    ensures { λ r. ⌜ r ≡ reply (nameAnswer answer) ⌝ }
+{
+    match answer {
+        WriteName::End(end) => Reply {
+            number: 0,
+            value: end,
+        },
+        WriteName::NotThere => Reply {
+            number: 21,
+            value: 0,
+        },
+        WriteName::NoRoom => Reply {
+            number: 13,
             value: 0,
         },
     }
