@@ -7,9 +7,10 @@ use Rattle.walks.proofs.Walk.{WpFn, Atoms, Lfts, Given, Item, mean, raw, ‵, _
 use Rattle.walks.proofs.Walk.{some, learn, pick, suffices, done, _$_, _∵_, !, qed, move, keep, drop, split, join, use0, use1, fsplit, Is, shows}
 use Rattle.walks.proofs.Walk.{peeks, RefT, sliceVal, ShrSlice, shr-slice-lawful, u8, owns, namedLft, RattleType}
 use Rattle.walks.proofs.Walk.{Triple, Vals, alive, onEntry, Clauses, ensured, lasts, atExit, closing, tripleOf, Meets, Stays, walkOf, ends-at}
-use Rattle.walks.proofs.Types.{Spelled}
+use Rattle.walks.proofs.Types.{Spelled, Plain, struct, enum}
 use Rattle.walks.proofs.Walked.{nothings, had, drops, all-drop, met}
 use mir.Syntax.{Lifetime, erased, imm, w8, tyInt, tyRef}
+use denote.Ref.{NamedLft}
 use denote.Slice.{sliceTy}
 use denote.Struct.Declared.{Declared}
 use denote.Struct.Laws as LL
@@ -20,6 +21,10 @@ use Rattle.shown.proofs.ShownSheet as T
 use Rattle.shown.proofs.ShownSheet.Laws as T′
 use Rattle.shown.proofs.Facts as F
 use Rattle.shown.proofs.Facts.Laws as F′
+use Rattle.sheet.proofs.CapFacts as K
+use Rattle.sheet.proofs.CapFacts.Laws as K′
+use Rattle.sheet.proofs.WriteSheet as S
+use Rattle.sheet.proofs.WriteSheet.Laws as S′
 use Rattle.shown.proofs.Held.{passes, walk-passes}
 use Rattle.shown.proofs.sender_in as step
 use Rattle.shown.proofs.sender as sender
@@ -37,8 +42,21 @@ D κs = T.the-type (namedLft 1 0 tt κs)
 abbrev L : (κs : Lfts 1) → LL.Laws (D κs)
 L κs = T′.the-laws (namedLft 1 0 tt κs)
 
-abbrev pub whole : (κs : Lfts 1) → Spelled (T.the-row (namedLft 1 0 tt κs))
-whole κs = record { val = LL.val (D κs) (L κs); tells = LL.tells (D κs) (L κs); lawful = λ 𝓤 H A W. LL.lawful (D κs) (L κs) 𝓤 H A W }
+abbrev pub sheet : (α : NamedLft) → Spelled (T.the-row α)
+sheet α = record {
+  val = LL.val (T.the-type α) (T′.the-laws α);
+  tells = LL.tells (T.the-type α) (T′.the-laws α);
+  lawful = λ 𝓤 H A W. LL.lawful (T.the-type α) (T′.the-laws α) 𝓤 H A W;
+}
+
+abbrev pub facts : Plain F.the-row
+facts = struct F.the-type F′.the-laws F′.the-plain
+
+abbrev pub cap-facts : Plain K.the-row
+cap-facts = struct K.the-type K′.the-laws K′.the-plain
+
+abbrev pub answer : Plain S.the-row
+answer = enum S.the-type S′.the-laws tt S′.the-plain
 
 abbrev stayed : Stays (sender.ended .signature .params) (sender.ended .kept)
 stayed = drops (sender.signature .params) (sender.ended .kept)
@@ -53,7 +71,7 @@ module _ {M : Type 1} (𝓤 : URA M) (H : Heap 𝓤) (A : Atoms 𝓤) (W : Given
     (c κs (d, tt) .ensures g r (atExit sender.ended κs (d, tt) (tt, tt)))) where
   pub meets : Meets 𝓤 H A sender.signature (WpFn 𝓤 H (𝓣 .C) (𝓣 .Λ) (handed f)) (closing 𝓤 H A sender.ended c)
   meets = met W sender.ended stayed c (all-drop 𝓤 H A W (sender.signature .params) (sender.ended .kept) ((λ κs x f. refl), tt)) 𝓣 (handed f)
-      (λ κs. (whole κs, tt)) (λ κs qs b a g are are-typed.
+      (λ κs. (sheet (namedLft 1 0 tt κs), tt)) (λ κs qs b a g are are-typed.
       let d : ShownSheet = a .0 in
       let O : RattleType = ShrSlice (named 0) (κs .0) u8 in
       let t : Val = sliceVal (d .text .ptr) (length (d .text .now)) in

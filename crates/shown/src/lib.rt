@@ -35,19 +35,6 @@ pub fn name_in(text: &[u8], facts: Facts) -> &[u8]
     span_in(text, facts.name)
 }
 
-// Writes the sentence of the sheet that the facts make with a text. Plain parameters: who has a text and facts needs no sheet that holds a slice.
-pub fn write_shown(buffer: &mut [u8], start: usize, text: &[u8], facts: Facts) -> WriteSheet
-    ensures { λ r. ⌜ (writeAnswer r ≡ writing (now (buffer .entry)) start (sheetWith (now (text .entry)) facts)) × (now (buffer .exit) ≡ after (now (buffer .entry)) start (sheetWith (now (text .entry)) facts)) ⌝ }
-{
-    readback::write_cap(
-        buffer,
-        start,
-        facts.facts,
-        sender_in(text, facts),
-        name_in(text, facts),
-    )
-}
-
 // The sheet of facts and the text in which its sender and name stand.
 pub fn make<'a>(text: &'a [u8], facts: Facts) -> ShownSheet<'a>
     ensures { λ r. ⌜ (r .text ≡ text .entry) × (r .facts ≡ facts) ⌝ }
@@ -69,9 +56,16 @@ pub fn name<'a>(s: ShownSheet<'a>) -> &'a [u8]
     name_in(s.text, s.facts)
 }
 
-// The sheet's other facts.
-pub fn facts_of<'a>(s: ShownSheet<'a>) -> CapFacts
-    ensures { λ r. ⌜ r ≡ s .entry .facts .facts ⌝ }
+// Writes the sheet's sentence.
+pub fn write<'a>(buffer: &mut [u8], start: usize, s: ShownSheet<'a>) -> WriteSheet
+    ensures { λ r. ⌜ (writeAnswer r ≡ writing (now (buffer .entry)) start (sheetWith (now (s .entry .text)) (s .entry .facts))) × (now (buffer .exit) ≡ after (now (buffer .entry)) start (sheetWith (now (s .entry .text)) (s .entry .facts))) ⌝ }
 {
-    s.facts.facts
+    readback::write_cap(buffer, start, s.facts.facts, sender(s), name(s))
+}
+
+// Writes the sentence of the sheet that the facts make with a text.
+pub fn write_shown(buffer: &mut [u8], start: usize, text: &[u8], facts: Facts) -> WriteSheet
+    ensures { λ r. ⌜ (writeAnswer r ≡ writing (now (buffer .entry)) start (sheetWith (now (text .entry)) facts)) × (now (buffer .exit) ≡ after (now (buffer .entry)) start (sheetWith (now (text .entry)) facts)) ⌝ }
+{
+    write(buffer, start, make(text, facts))
 }

@@ -15,7 +15,7 @@ use Rattle.shown.proofs.ShownSheet as T
 use Rattle.shown.proofs.ShownSheet.Laws as T′
 use Rattle.shown.proofs.Facts as F
 use Rattle.shown.proofs.Facts.Laws as F′
-use Rattle.shown.proofs.Parts.{whole}
+use Rattle.shown.proofs.Parts.{sheet}
 use Rattle.shown.proofs.make.Key as key
 use Rattle.shown.proofs.make as make
 use Rattle.shown.proofs.make.Statement as stated
@@ -34,13 +34,13 @@ module _ {M : Type 1} (𝓤 : URA M) (H : Heap 𝓤) (A : Atoms 𝓤) (W : Given
       qed W (raw (alive 𝓤 H A make.signature κs qs) ∷ ‵ (owns (typesAt (make.signature .params) κs) a at) ∷ []) ∵ enters ! code.function _
       (λ _. are-typed) (λ bs.
       sets ! 0 refl (agg ! (and-then ! (local ! 1 refl) (and-then ! (local ! 2 refl) (no-more !))))
-      (whole κs .lawful 𝓤 H A W .typed made _ (LL.owes (T.the-type (namedLft 1 0 tt κs)) (T′.the-laws (namedLft 1 0 tt κs)) made
+      (sheet (namedLft 1 0 tt κs) .lawful 𝓤 H A W .typed made _ (LL.owes (T.the-type (namedLft 1 0 tt κs)) (T′.the-laws (namedLft 1 0 tt κs)) made
       (are .0, (are .1 .0, tt))) .0) $
-      leaves ! [] (whole κs .val made) (holds _ ∷ holds _ ∷ []) (raw (alive 𝓤 H A make.signature κs qs) ∷ ‵
+      leaves ! [] (sheet (namedLft 1 0 tt κs) .val made) (holds _ ∷ holds _ ∷ []) (raw (alive 𝓤 H A make.signature κs qs) ∷ ‵
       (owns (typesAt (make.signature .params) κs) a at) ∷ []) $
-      suffices ! _ (ends-at 𝓤 H A make.ended stayed (make.clauses 𝓤 H A mem run) W ((κs, qs, tt, a, at), tt) (whole κs .val made) made (tt, (tt, tt))
+      suffices ! _ (ends-at 𝓤 H A make.ended stayed (make.clauses 𝓤 H A mem run) W ((κs, qs, tt, a, at), tt) (sheet (namedLft 1 0 tt κs) .val made) made (tt, (tt, tt))
       (tt, (tt, tt))) $
-      move ! (1 ∷ []) $ use1 W (‵ (T.the-row (namedLft 1 0 tt κs) .own made (whole κs .val made ∷ [])))
+      move ! (1 ∷ []) $ use1 W (‵ (T.the-row (namedLft 1 0 tt κs) .own made (sheet (namedLft 1 0 tt κs) .val made ∷ [])))
       (own-shut 𝓤 H A W (T.the-type (namedLft 1 0 tt κs)) (T′.the-laws (namedLft 1 0 tt κs)) (a .0, (a .1 .0, tt))) $
       use0 W (‵ (nothings (make.signature .params))) (had 𝓤 H A W (make.signature .params)) $ join ! $ move ! (1 ∷ 0 ∷ []) $ join ! $
       use0 W (raw (make.clauses 𝓤 H A mem run κs a .ensures tt made (atExit make.ended κs a (tt, (tt, tt))))) (factI 𝓤 _ (emp 𝓤) (refl, refl)) $
