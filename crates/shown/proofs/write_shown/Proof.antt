@@ -1,17 +1,15 @@
 -- `shown::write_shown` meets its contract: a walk of its MIR, by hand. `make` makes the sheet of the text and the facts, and `write` writes it.
 -- Assumes nothing.
-use Rattle.walks.proofs.Walk.{_≡_, refl, _∙_, ap, _∷_, [], length, URA, named, w64, Val, vint, SProp, emp, id⊢, Memory, Routine, Heap, WpFn, Tables, Atoms}
+use Rattle.walks.proofs.Walk.{_≡_, refl, _∙_, ap, _∷_, [], length, URA, named, erased, w64, Val, vint, SProp, emp, id⊢, Memory, Routine, Heap, WpFn, Tables, Atoms}
 use Rattle.walks.proofs.Walk.{Fun, factI, givenOf, tables, tablesOf, Given, Item, ‵, raw, _⊛_, _$_, _∵_, !, qed, by, move, keep, drop, split, join, use0, use1}
-use Rattle.walks.proofs.Walk.{fsplit, fjoin, feqL, whole, sub, look-in, agg, addr, from, fld, hop, stop, and-then, no-more, now, sliceVal, owns, typesAt}
+use Rattle.walks.proofs.Walk.{fsplit, fjoin, feqL, whole, sub, look-in, agg, addr, from, fld, hop, stop, and-then, no-more, now, sliceVal, owns, typesAt, Is, heard, nothing, owned}
 use Rattle.walks.proofs.Walk.{flft, ftrue, u8, usize, Triple, Vals, tripleOf, Meets, entered, cited, Stays, gave-slice, goes-gave-slice, plain, namedLft}
 use Rattle.walks.proofs.Locals.{empty, holds, enters, leaves}
 use Rattle.walks.proofs.Types.{number, mutable, shared, struct, typed}
 use Rattle.walks.proofs.Steps.{local, part, sets, lands-in}
 use Rattle.walks.proofs.Calls.{called, calls-some}
-use Rattle.walks.proofs.Walked.{others, nothings, had, drops, all-drop, ends, met}
-use mir.Syntax.{erased}
-use denote.Steps.{heard, nothing, owned}
-use denote.Laws.{Is}
+use Rattle.walks.proofs.Slices.{spent}
+use Rattle.walks.proofs.Walked.{others, drops, all-drop, ends, met}
 use denote.Struct.Laws as LL
 use Rattle.sheet.specs.declared.WriteSheet.{WriteSheet}
 use Rattle.sheet.specs.Answers.{writing, writeAnswer, after}
@@ -19,7 +17,7 @@ use Rattle.shown.specs.Slices.{sheetWith}
 use Rattle.shown.specs.declared.ShownSheet.{ShownSheet}
 use Rattle.shown.proofs.ShownSheet as T
 use Rattle.shown.proofs.ShownSheet.Laws as T′
-use Rattle.shown.proofs.Parts.{facts, answer}
+use Rattle.shown.proofs.SheetTypes.{facts, answer}
 use Rattle.shown.proofs.make as make
 use Rattle.shown.proofs.make.Symbol as make-def
 use Rattle.shown.proofs.make.Met as make-thm
@@ -70,11 +68,9 @@ module _ {M : Type 1} (𝓤 : URA M) (H : Heap 𝓤) (A : Atoms 𝓤) (W : Given
       × (zs .0 ≡ after (now (a .0)) (a .1 .0) (sheetWith (now (s .text)) (s .facts)))) (λ r zs. id⊢ 𝓤 _)
       (and-then ! (local ! 8 refl) (and-then ! (local ! 4 refl) (and-then ! (local ! 9 refl) (no-more !)))) (λ r zs said made.
       lands-in ! 3 refl (typed 𝓤 H A W answer r made .0) $
-      move ! (1 ∷ []) $ fsplit ! $ fsplit ! $ move ! (1 ∷ []) $ feqL ! (λ long. 
-      use0 W (‵ (nothings (others (write-shown.signature .params)))) (had 𝓤 H A W (others (write-shown.signature .params))) $
-      move ! (1 ∷ 0 ∷ []) $ fjoin ! $ move ! (2 ∷ 0 ∷ []) $
-      leaves ! (_ ∷ _ ∷ _ ∷ _ ∷ []) _ (holds _ ∷ holds _ ∷ holds _ ∷ holds _ ∷ holds _ ∷ holds _ ∷ holds _ ∷ []) [] $
-      keep ! (0 ∷ 1 ∷ []) $ by ! (ends W write-shown.ended stayed (write-shown.clauses 𝓤 H A mem run) ((κs, qs, tt, a, at), tt) r (zs .0, (tt, (tt, (tt, tt))))
+      move ! (1 ∷ []) $ spent ! u8 (others (write-shown.signature .params)) (λ long.
+      leaves ! (_ ∷ _ ∷ _ ∷ []) _ (holds _ ∷ holds _ ∷ holds _ ∷ holds _ ∷ holds _ ∷ holds _ ∷ holds _ ∷ []) [] $
+      keep ! (1 ∷ 0 ∷ []) $ by ! (ends W write-shown.ended stayed (write-shown.clauses 𝓤 H A mem run) ((κs, qs, tt, a, at), tt) r (zs .0, (tt, (tt, (tt, tt))))
       (long, (tt, (tt, (tt, tt)))) (factI 𝓤 _ (emp 𝓤) (
         said .0 ∙ (λ i. writing (now (a .0)) (a .1 .0) (sheetWith (now (same .0 i)) (same .1 i))),
         said .1 ∙ (λ i. after (now (a .0)) (a .1 .0) (sheetWith (now (same .0 i)) (same .1 i))),
