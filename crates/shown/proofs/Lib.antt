@@ -1,2 +1,2 @@
-mod SheetTypes
+mod Sheets
 mod Parts

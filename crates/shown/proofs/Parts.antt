@@ -2,7 +2,7 @@
 -- handed on.
 --     handed f         the routine that calls f.        meets        it meets c where f meets c₁ and what c₁ ensures is what c ensures
 -- Assumes `Given`.
-use Rattle.walks.proofs.Walk.{_≡_, refl, _∷_, [], ℕ, List, length, URA, Name, Ty, named, erased, w8, valueLocal, place, field, copy, rvOpd, assign, call}
+use Rattle.walks.proofs.Walk.{_≡_, refl, _∷_, [], ℕ, List, length, URA, Name, named, erased, valueLocal, place, field, copy, rvOpd, assign, call}
 use Rattle.walks.proofs.Walk.{return, seq, Fn, Val, ent, emp, id⊢, Heap, Tables, WpFn, Atoms, Lfts, Given, raw, ‵, given, learn, _$_, _∵_, !, qed, by}
 use Rattle.walks.proofs.Walk.{move, keep, join, use0, use1, fsplit, whole, sub, of-opd, and-then, no-more, Is, RefT, sliceVal, shr-slice-lawful, u8}
 use Rattle.walks.proofs.Walk.{owns, typesAt, namedLft, Triple, alive, Clauses, atExit, closing, tripleOf, Meets, Stays}
@@ -11,8 +11,7 @@ use Rattle.walks.proofs.Steps.{local, part, sets, lands-in}
 use Rattle.walks.proofs.Calls.{called}
 use Rattle.walks.proofs.Types.{typed}
 use Rattle.walks.proofs.Walked.{nothings, had, drops, all-drop, ends-owning, met}
-use mir.Syntax.{Lifetime, imm, tyInt, tyRef, local as local-of}
-use denote.Slice.{sliceTy}
+use mir.Syntax.{local as local-of}
 use denote.Struct.Declared.{Declared}
 use denote.Struct.Laws as LL
 use denote.Struct.Rest.{all-own, own-open}
@@ -21,12 +20,9 @@ use Rattle.shown.proofs.ShownSheet as T
 use Rattle.shown.proofs.ShownSheet.Laws as T′
 use Rattle.shown.proofs.Facts as F
 use Rattle.shown.proofs.Facts.Laws as F′
-use Rattle.shown.proofs.SheetTypes.{sheet, facts}
+use Rattle.shown.proofs.Sheets.{text, in-sheet, sheet, facts}
 use Rattle.shown.proofs.sender_in as step
 use Rattle.shown.proofs.sender as sender
-
-abbrev text : Lifetime → Ty
-text ℓ = sliceTy (tyRef ℓ imm (tyInt w8))
 
 abbrev pub handed : Name → Fn
 handed f = record {
@@ -62,8 +58,8 @@ module _ {M : Type 1} (𝓤 : URA M) (H : Heap 𝓤) (A : Atoms 𝓤) (W : Given
       let owed : Is F.the-row (d .facts) (m ∷ []) = LL.owed D L d (v ∷ []) (are .0) .1 .0 in
       qed W (raw (alive 𝓤 H A sender.signature κs qs) ∷ ‵ (owns (typesAt (sender.signature .params) κs) a (v ∷ [], tt)) ∷ []) ∵
       enters ! (handed f) _ (λ _. are-typed) (λ bs.
-      sets ! 2 refl (of-opd ! (part ! 1 refl (sub ! 0 refl (whole !)))) (tt, are-typed .0 .1 .0) $
-      sets ! 3 refl (of-opd ! (part ! 1 refl (sub ! 1 refl (whole !)))) (typed 𝓤 H A W facts (d .facts) owed .0) $
+      sets ! 2 refl (of-opd ! (part ! 1 {τ = text (named 0)} {d = 0} refl (sub ! {τs = in-sheet (named 0)} 0 {τ = text (named 0)} {d = 0} refl (whole !)))) (tt, are-typed .0 .1 .0) $
+      sets ! 3 refl (of-opd ! (part ! 1 {τ = F′.mir} {d = 16} refl (sub ! {τs = in-sheet (named 0)} 1 {τ = F′.mir} {d = 16} refl (whole !)))) (typed 𝓤 H A W facts (d .facts) owed .0) $
       -- what the sheet owns is what f is asked
       move ! (9 ∷ []) $ fsplit ! $ use1 W (given (v ∷ [] ≡ v ∷ []) (‵ (all-own (D .parts) L (d .text, (d .facts, tt)))))
       (own-open 𝓤 H A W D L (d .text, (d .facts, tt)) v) $ learn ! (λ _. move ! (10 ∷ 0 ∷ []) $ join ! $

@@ -12,7 +12,7 @@ use denote.Struct.Rest.{own-shut}
 use Rattle.shown.specs.declared.ShownSheet.{ShownSheet}
 use Rattle.shown.proofs.ShownSheet as T
 use Rattle.shown.proofs.ShownSheet.Laws as T′
-use Rattle.shown.proofs.SheetTypes.{sheet, facts}
+use Rattle.shown.proofs.Sheets.{sheet, facts}
 use Rattle.shown.proofs.make.Key as key
 use Rattle.shown.proofs.make as make
 use Rattle.shown.proofs.make.Statement as stated

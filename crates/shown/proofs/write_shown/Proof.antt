@@ -1,23 +1,19 @@
--- `shown::write_shown` meets its contract: a walk of its MIR, by hand. `make` makes the sheet of the text and the facts, and `write` writes it.
+-- `shown::write_shown` meets its contract: a walk of its MIR, by hand. `make` makes the sheet of the text and the facts, and `write` writes it; to that
+-- the buffer is given up for good.
 -- Assumes nothing.
-use Rattle.walks.proofs.Walk.{_≡_, refl, _∙_, ap, _∷_, [], length, URA, named, erased, w64, Val, vint, SProp, emp, id⊢, Memory, Routine, Heap, WpFn, Tables, Atoms}
-use Rattle.walks.proofs.Walk.{Fun, factI, givenOf, tables, tablesOf, Given, Item, ‵, raw, _⊛_, _$_, _∵_, !, qed, by, move, keep, drop, split, join, use0, use1}
-use Rattle.walks.proofs.Walk.{fsplit, fjoin, feqL, whole, sub, look-in, agg, addr, from, fld, hop, stop, and-then, no-more, now, sliceVal, owns, typesAt, Is, heard, nothing, owned}
-use Rattle.walks.proofs.Walk.{flft, ftrue, u8, usize, Triple, Vals, tripleOf, Meets, entered, cited, Stays, gave-slice, goes-gave-slice, plain, namedLft}
-use Rattle.walks.proofs.Locals.{empty, holds, enters, leaves}
-use Rattle.walks.proofs.Types.{number, mutable, shared, struct, typed}
+use Rattle.walks.proofs.Walk.{_≡_, refl, subst, _∷_, [], length, URA, named, erased, w64, Val, vint, SProp, emp, id⊢, Memory, Routine, Heap, WpFn}
+use Rattle.walks.proofs.Walk.{Tables, Atoms, Fun, factI, givenOf, tables, tablesOf, Given, ‵, _⊛_, _$_, _∵_, !, qed, by, move, keep, drop, split, join}
+use Rattle.walks.proofs.Walk.{fsplit, fjoin, whole, sub, look-in, agg, addr, from, fld, hop, stop, and-then, no-more, Is, heard, nothing, owned, NamedLft}
+use Rattle.walks.proofs.Walk.{now, sliceVal, owns, typesAt, flft, ftrue, u8, usize, Triple, Vals, tripleOf, Meets, entered, cited, Stays, gave-slice}
+use Rattle.walks.proofs.Walk.{goes-gave-slice, plain}
+use Rattle.walks.proofs.Locals.{holds, enters, leaves}
+use Rattle.walks.proofs.Types.{number, mutable, shared, typed}
 use Rattle.walks.proofs.Steps.{local, part, sets, lands-in}
 use Rattle.walks.proofs.Calls.{called, calls-some}
 use Rattle.walks.proofs.Slices.{spent}
 use Rattle.walks.proofs.Walked.{others, drops, all-drop, ends, met}
-use denote.Struct.Laws as LL
-use Rattle.sheet.specs.declared.WriteSheet.{WriteSheet}
-use Rattle.sheet.specs.Answers.{writing, writeAnswer, after}
 use Rattle.shown.specs.Slices.{sheetWith}
-use Rattle.shown.specs.declared.ShownSheet.{ShownSheet}
-use Rattle.shown.proofs.ShownSheet as T
-use Rattle.shown.proofs.ShownSheet.Laws as T′
-use Rattle.shown.proofs.SheetTypes.{facts, answer}
+use Rattle.shown.proofs.Sheets.{sheet, facts, answer, Written}
 use Rattle.shown.proofs.make as make
 use Rattle.shown.proofs.make.Symbol as make-def
 use Rattle.shown.proofs.make.Met as make-thm
@@ -41,9 +37,10 @@ module _ {M : Type 1} (𝓤 : URA M) (H : Heap 𝓤) (A : Atoms 𝓤) (W : Given
     all-drop 𝓤 H A W (others (write-shown.signature .params)) (write-shown.ended .kept .1) ((λ κs x f. refl), ((λ κs x f. refl), ((λ κs x f. refl), tt))),
   ) 𝓣 code.function
       (λ κs. (mutable (named 0) (κs .0) u8, (number w64 .spelled, (shared (named 1) (κs .1 .0) u8, (facts .spelled, tt))))) (λ κs qs b a g are are-typed.
+      let α : NamedLft = record { mir = erased; lft = κs .1 .0 } in
       let slice : Val = sliceVal (a .0 .ptr) (length (now (a .0))) in
-      let text : Val = sliceVal (a .1 .1 .0 .ptr) (length (now (a .1 .1 .0))) in
       let start : Val = vint w64 (a .1 .0) in
+      let text : Val = sliceVal (a .1 .1 .0 .ptr) (length (now (a .1 .1 .0))) in
       let m : Val = facts .spelled .val (a .1 .1 .1 .0) in
       let at : Vals write-shown.signature κs = (slice ∷ [], (start ∷ [], (text ∷ [], (m ∷ [], tt)))) in
       qed W ((‵ (flft (κs .0) (qs .0)) ⊛ (‵ (flft (κs .1 .0) (qs .1 .0)) ⊛ ‵ ftrue)) ∷ ‵ (owns (typesAt (write-shown.signature .params) κs) a at) ∷ []) ∵
@@ -52,29 +49,24 @@ module _ {M : Type 1} (𝓤 : URA M) (H : Heap 𝓤) (A : Atoms 𝓤) (W : Given
       sets ! 6 refl (agg ! (and-then ! (local ! 5 refl) (and-then ! (part ! 1 refl (sub ! 1 refl (whole !))) (no-more !))))
       (tt, (tt, (record { fits = are .0 .0 .1 .0 }, tt))) $
       move ! (17 ∷ []) $ fsplit ! $ move ! (1 ∷ []) $ fsplit ! $ drop ! $ move ! (18 ∷ []) $ split ! $ move ! (1 ∷ 2 ∷ []) $ join ! $
-      -- what `make` is given; the buffer's token, and what the buffer owns; local k at k + 3
+      -- what `make` is given; the buffer's token; what the buffer owns; local k at k + 3
       called ! 𝓣 make.ended (make.clauses 𝓤 H A mem run) makes ((κs .1, qs .1, tt, a .1 .1, (text ∷ [], (m ∷ [], tt))), tt) (id⊢ 𝓤 _) (id⊢ 𝓤 _)
       (and-then ! (local ! 6 refl) (and-then ! (local ! 7 refl) (no-more !))) (λ u s ws is.
-      heard ! ((s .text ≡ a .1 .1 .0) × (s .facts ≡ a .1 .1 .1 .0)) (λ same.
-      -- the text's token; what the sheet owns; of `make`'s last values; the buffer's token, and what the buffer owns; local k at k + 5
-      lands-in ! 12 refl (LL.lawful (T.the-type (record { mir = erased; lft = κs .1 .0 })) (T′.the-laws (record { mir = erased; lft = κs .1 .0 })) 𝓤 H A W
-      .typed s (u ∷ []) is .0) $
+      heard ! ((s .text ≡ a .1 .1 .0) × (s .facts ≡ a .1 .1 .1 .0)) (λ same. lands-in ! 12 refl (sheet α .lawful 𝓤 H A W .typed s (u ∷ []) is .0) $
+      -- the text's token; what the sheet owns; of `make`'s last values; the buffer's token; what the buffer owns; local k at k + 5
       move ! (3 ∷ 0 ∷ []) $ join ! $ nothing ! $ move ! (2 ∷ 0 ∷ []) $ fjoin ! $
       owned ! usize (Is usize) (number w64 .makes 𝓤 H A W) (a .1 .0) (start ∷ []) (are .1 .0) $ fjoin ! $ move ! (3 ∷ 0 ∷ []) $ fjoin ! $
       move ! (1 ∷ 0 ∷ []) $ join ! $
+      -- what `write` is given; local k at k + 2
       calls-some ! 𝓣 write.ended (write.clauses 𝓤 H A mem run) writes
       ((κs, qs, tt, (a .0, (a .1 .0, (s, tt))), (slice ∷ [], (start ∷ [], (u ∷ [], tt)))), tt) (id⊢ 𝓤 _) (id⊢ 𝓤 _) answer
-      (λ r zs. (writeAnswer r ≡ writing (now (a .0)) (a .1 .0) (sheetWith (now (s .text)) (s .facts)))
-      × (zs .0 ≡ after (now (a .0)) (a .1 .0) (sheetWith (now (s .text)) (s .facts)))) (λ r zs. id⊢ 𝓤 _)
+      (λ r zs. Written (now (a .0)) (a .1 .0) r (zs .0) (sheetWith (now (s .text)) (s .facts))) (λ r zs. id⊢ 𝓤 _)
       (and-then ! (local ! 8 refl) (and-then ! (local ! 4 refl) (and-then ! (local ! 9 refl) (no-more !)))) (λ r zs said made.
-      lands-in ! 3 refl (typed 𝓤 H A W answer r made .0) $
-      move ! (1 ∷ []) $ spent ! u8 (others (write-shown.signature .params)) (λ long.
-      leaves ! (_ ∷ _ ∷ _ ∷ []) _ (holds _ ∷ holds _ ∷ holds _ ∷ holds _ ∷ holds _ ∷ holds _ ∷ holds _ ∷ []) [] $
-      keep ! (1 ∷ 0 ∷ []) $ by ! (ends W write-shown.ended stayed (write-shown.clauses 𝓤 H A mem run) ((κs, qs, tt, a, at), tt) r (zs .0, (tt, (tt, (tt, tt))))
-      (long, (tt, (tt, (tt, tt)))) (factI 𝓤 _ (emp 𝓤) (
-        said .0 ∙ (λ i. writing (now (a .0)) (a .1 .0) (sheetWith (now (same .0 i)) (same .1 i))),
-        said .1 ∙ (λ i. after (now (a .0)) (a .1 .0) (sheetWith (now (same .0 i)) (same .1 i))),
-      )) answer made)))))))
+      lands-in ! 3 refl (typed 𝓤 H A W answer r made .0) $ move ! (1 ∷ []) $ spent ! u8 (others (write-shown.signature .params)) (λ long.
+      leaves ! (_ ∷ _ ∷ _ ∷ []) _ (holds _ ∷ holds _ ∷ holds _ ∷ holds _ ∷ holds _ ∷ holds _ ∷ holds _ ∷ []) [] $ keep ! (1 ∷ 0 ∷ []) $
+      by ! (ends W write-shown.ended stayed (write-shown.clauses 𝓤 H A mem run) ((κs, qs, tt, a, at), tt) r (zs .0, (tt, (tt, (tt, tt))))
+      (long, (tt, (tt, (tt, tt)))) (factI 𝓤 _ (emp 𝓤)
+      (subst (Written (now (a .0)) (a .1 .0) r (zs .0)) (λ i. sheetWith (now (same .0 i)) (same .1 i)) said)) answer made)))))))
 
 pub write-shown-spec : {M : Type 1} → stated.statement M
 unfolding code.routine tablesOf
