@@ -1,2 +1,2 @@
-mod Held
+mod Sheets
 mod Parts

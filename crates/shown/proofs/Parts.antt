@@ -1,44 +1,39 @@
--- `sender` and `name` in one: the struct is taken apart, a function is called on its text and its facts, and the part of the text that it returns is
+-- `sender` and `name` in one: the sheet is taken apart, a function is called on its text and its facts, and the part of the text that it returns is
 -- handed on.
 --     handed f         the routine that calls f.        meets        it meets c where f meets c₁ and what c₁ ensures is what c ensures
 -- Assumes `Given`.
-use Rattle.walks.proofs.Walk.{_≡_, refl, _∷_, [], ℕ, List, length, URA, named, Name, Ty, Fn, Val, ent, emp, via, id⊢, guardI, Heap, Tables}
-use Rattle.walks.proofs.Walk.{WpFn, Atoms, Lfts, Given, Item, mean, raw, ‵, _⊛_, given}
-use Rattle.walks.proofs.Walk.{some, learn, pick, suffices, done, _$_, _∵_, !, qed, move, keep, drop, split, join, use0, use1, fsplit, Is, shows}
-use Rattle.walks.proofs.Walk.{peeks, RefT, sliceVal, ShrSlice, shr-slice-lawful, u8, owns, namedLft, RattleType}
-use Rattle.walks.proofs.Walk.{Triple, Vals, alive, onEntry, Clauses, ensured, lasts, atExit, closing, tripleOf, Meets, Stays, walkOf, ends-at}
-use Rattle.walks.proofs.Types.{Spelled}
-use Rattle.walks.proofs.Walked.{nothings, had, drops, all-drop, met}
-use mir.Syntax.{Lifetime, erased, imm, w8, tyInt, tyRef}
-use denote.Slice.{sliceTy}
+use Rattle.walks.proofs.Walk.{_≡_, refl, _∷_, [], ℕ, List, length, URA, Name, named, erased, valueLocal, place, field, copy, rvOpd, assign, call}
+use Rattle.walks.proofs.Walk.{return, seq, Fn, Val, ent, emp, id⊢, Heap, Tables, WpFn, Atoms, Lfts, Given, raw, ‵, given, learn, _$_, _∵_, !, qed, by}
+use Rattle.walks.proofs.Walk.{move, keep, join, use0, use1, fsplit, whole, sub, of-opd, and-then, no-more, Is, RefT, sliceVal, shr-slice-lawful, u8}
+use Rattle.walks.proofs.Walk.{owns, typesAt, namedLft, Triple, alive, Clauses, atExit, closing, tripleOf, Meets, Stays}
+use Rattle.walks.proofs.Locals.{holds, enters, leaves}
+use Rattle.walks.proofs.Steps.{local, part, sets, lands-in}
+use Rattle.walks.proofs.Calls.{called}
+use Rattle.walks.proofs.Types.{typed}
+use Rattle.walks.proofs.Walked.{nothings, had, drops, all-drop, ends-owning, met}
+use mir.Syntax.{local as local-of}
 use denote.Struct.Declared.{Declared}
 use denote.Struct.Laws as LL
 use denote.Struct.Rest.{all-own, own-open}
-use denote.Struct.Values.{Values}
 use Rattle.shown.specs.declared.ShownSheet.{ShownSheet}
 use Rattle.shown.proofs.ShownSheet as T
 use Rattle.shown.proofs.ShownSheet.Laws as T′
 use Rattle.shown.proofs.Facts as F
 use Rattle.shown.proofs.Facts.Laws as F′
-use Rattle.shown.proofs.Held.{passes, walk-passes}
+use Rattle.shown.proofs.Sheets.{text, in-sheet, sheet, facts}
 use Rattle.shown.proofs.sender_in as step
 use Rattle.shown.proofs.sender as sender
 
-abbrev text : Lifetime → Ty
-text ℓ = sliceTy (tyRef ℓ imm (tyInt w8))
-
 abbrev pub handed : Name → Fn
-handed f = passes f (T.the-type (namedLft 1 0 tt ([], tt)) .name) (text (named 0)) (text erased) F′.mir (text (named 0))
-
--- the struct at the signature's lifetimes
-abbrev D : Lfts 1 → Declared
-D κs = T.the-type (namedLft 1 0 tt κs)
-
-abbrev L : (κs : Lfts 1) → LL.Laws (D κs)
-L κs = T′.the-laws (namedLft 1 0 tt κs)
-
-abbrev pub whole : (κs : Lfts 1) → Spelled (T.the-row (namedLft 1 0 tt κs))
-whole κs = record { val = LL.val (D κs) (L κs); tells = LL.tells (D κs) (L κs); lawful = λ 𝓤 H A W. LL.lawful (D κs) (L κs) 𝓤 H A W }
+handed f = record {
+  lifetimes = 1;
+  outlives = [];
+  params = 1;
+  locals = local-of (text (named 0)) valueLocal ∷ local-of (T′.mir (named 0)) valueLocal ∷ local-of (text erased) valueLocal ∷ local-of F′.mir valueLocal
+      ∷ [];
+  body = seq (assign (place 2 []) (rvOpd (copy (place 1 (field 0 ∷ []))))) (seq (assign (place 3 []) (rvOpd (copy (place 1 (field 1 ∷ [])))))
+      (seq (call f (copy (place 2 []) ∷ copy (place 3 []) ∷ []) (place 0 [])) return));
+}
 
 abbrev stayed : Stays (sender.ended .signature .params) (sender.ended .kept)
 stayed = drops (sender.signature .params) (sender.ended .kept)
@@ -53,32 +48,25 @@ module _ {M : Type 1} (𝓤 : URA M) (H : Heap 𝓤) (A : Atoms 𝓤) (W : Given
     (c κs (d, tt) .ensures g r (atExit sender.ended κs (d, tt) (tt, tt)))) where
   pub meets : Meets 𝓤 H A sender.signature (WpFn 𝓤 H (𝓣 .C) (𝓣 .Λ) (handed f)) (closing 𝓤 H A sender.ended c)
   meets = met W sender.ended stayed c (all-drop 𝓤 H A W (sender.signature .params) (sender.ended .kept) ((λ κs x f. refl), tt)) 𝓣 (handed f)
-      (λ κs. (whole κs, tt)) (λ κs qs b a g are are-typed.
+      (λ κs. (sheet (namedLft 1 0 tt κs), tt)) (λ κs qs b a g are are-typed.
+      let D : Declared = T.the-type (namedLft 1 0 tt κs) in
+      let L : LL.Laws D = T′.the-laws (namedLft 1 0 tt κs) in
       let d : ShownSheet = a .0 in
-      let O : RattleType = ShrSlice (named 0) (κs .0) u8 in
       let t : Val = sliceVal (d .text .ptr) (length (d .text .now)) in
-      let m : Val = LL.val F.the-type F′.the-laws (d .facts) in
-      let mach : Val = LL.val (D κs) (L κs) d in
-      let vd : Values (D κs .parts) = (d .text, (d .facts, tt)) in
-      let at : Vals step.signature κs = (t ∷ [], (m ∷ [], tt)) in
-      let owed : Is F.the-row (d .facts) (m ∷ []) = LL.owed (D κs) (L κs) d (mach ∷ []) (are .0) .1 .0 in
-      let given-back : Val → Item 𝓤 = λ u. some (λ (r : RefT (List ℕ)). (raw (alive 𝓤 H A step.signature κs qs) ⊛ ‵ (O .own r (u ∷ []))) ⊛ raw
-      (ensured 𝓤 H A step.ended c₁ κs (d .text, (d .facts, tt)) (bound κs d) r)) in
-      walk-passes f _ _ _ _ _ W 𝓣 t m (onEntry 𝓤 H A sender.signature κs qs a (mach ∷ [], tt)) (λ u. mean 𝓤 H A (given-back u))
-      (walkOf 𝓤 H A sender.ended stayed c .post ((κs, qs, tt, a, (mach ∷ [], tt)), g))
-      (are-typed .0) (tt, are-typed .0 .1 .0) (LL.lawful F.the-type F′.the-laws 𝓤 H A W .typed (d .facts) (m ∷ []) owed .0)
-      -- what the struct owns is what f is asked
-      (via 𝓤 (tripleOf 𝓤 H A step.signature (closing 𝓤 H A step.ended c₁) .pre ((κs, qs, tt, (d .text, (d .facts, tt)), at), bound κs d))
-      (qed W (raw (alive 𝓤 H A sender.signature κs qs) ∷ ‵ (owns (T.the-row (namedLft 1 0 tt κs) ∷ []) a (mach ∷ [], tt)) ∷ []) ∵ move ! (1 ∷ []) $
-      fsplit ! $
-      use1 W (given (mach ∷ [] ≡ mach ∷ []) (‵ (all-own (D κs .parts) (L κs) vd))) (own-open 𝓤 H A W (D κs) (L κs) vd mach) $ learn ! (λ _.
-      use0 W (raw (c₁ κs (d .text, (d .facts, tt)) .requires (bound κs d))) (free κs d) $ keep ! (3 ∷ 1 ∷ 0 ∷ []) $ join ! $ done !))
-      (known ((κs, qs, tt, (d .text, (d .facts, tt)), at), bound κs d)))
-      (λ u. qed W (given-back u ∷ []) ∵ pick ! (λ r. split ! $ split ! $ move ! (1 ∷ []) $ peeks ! O (Is O) (shows 𝓤 H A O) r (u ∷ []) (λ is.
-      suffices ! _ (guardI 𝓤 _ _ (shr-slice-lawful 𝓤 H A W (named 0) (κs .0) u8 .typed r _ is .0)) $
-      suffices ! _ (ends-at 𝓤 H A sender.ended stayed c W ((κs, qs, tt, a, (mach ∷ [], tt)), g) u r (tt, tt) (tt, tt)) $
-      move ! (2 ∷ []) $ use1 W (some (λ (ws : Unit {0} × (Unit {0} × Unit {0})). ‵ (lasts step.ended κs (d .text, (d .facts, tt)) ws) ⊛ raw
-      (c₁ κs (d .text, (d .facts, tt)) .ensures (bound κs d) r (atExit step.ended κs (d .text, (d .facts, tt)) ws)))) (id⊢ 𝓤 _) $
-      pick ! (λ ws. split ! $ drop ! $ use1 W (raw (c κs a .ensures g r (atExit sender.ended κs a (tt, tt)))) (gives κs d g r) $
-      use0 W (‵ (nothings (sender.signature .params))) (had 𝓤 H A W (sender.signature .params)) $
-      move ! (0 ∷ 2 ∷ []) $ join ! $ move ! (2 ∷ 0 ∷ []) $ join ! $ done !)))))
+      let m : Val = facts .spelled .val (d .facts) in
+      let v : Val = sheet (namedLft 1 0 tt κs) .val d in
+      let owed : Is F.the-row (d .facts) (m ∷ []) = LL.owed D L d (v ∷ []) (are .0) .1 .0 in
+      qed W (raw (alive 𝓤 H A sender.signature κs qs) ∷ ‵ (owns (typesAt (sender.signature .params) κs) a (v ∷ [], tt)) ∷ []) ∵
+      enters ! (handed f) _ (λ _. are-typed) (λ bs.
+      sets ! 2 refl (of-opd ! (part ! 1 {τ = text (named 0)} {d = 0} refl (sub ! {τs = in-sheet (named 0)} 0 {τ = text (named 0)} {d = 0} refl (whole !)))) (tt, are-typed .0 .1 .0) $
+      sets ! 3 refl (of-opd ! (part ! 1 {τ = F′.mir} {d = 16} refl (sub ! {τs = in-sheet (named 0)} 1 {τ = F′.mir} {d = 16} refl (whole !)))) (typed 𝓤 H A W facts (d .facts) owed .0) $
+      -- what the sheet owns is what f is asked
+      move ! (9 ∷ []) $ fsplit ! $ use1 W (given (v ∷ [] ≡ v ∷ []) (‵ (all-own (D .parts) L (d .text, (d .facts, tt)))))
+      (own-open 𝓤 H A W D L (d .text, (d .facts, tt)) v) $ learn ! (λ _. move ! (10 ∷ 0 ∷ []) $ join ! $
+      called ! 𝓣 step.ended c₁ known ((κs, qs, tt, (d .text, (d .facts, tt)), (t ∷ [], (m ∷ [], tt))), bound κs d) (id⊢ 𝓤 _) (free κs d)
+      (and-then ! (local ! 4 refl) (and-then ! (local ! 5 refl) (no-more !))) (λ u r ws is.
+      lands-in ! 5 refl (shr-slice-lawful 𝓤 H A W (named 0) (κs .0) u8 .typed r (u ∷ []) is .0) $
+      leaves ! (_ ∷ _ ∷ _ ∷ _ ∷ _ ∷ []) u (holds v ∷ holds t ∷ holds m ∷ []) [] $
+      use1 W (raw (c κs a .ensures g r (atExit sender.ended κs a (tt, tt)))) (gives κs d g r) $
+      use0 W (‵ (nothings (sender.signature .params))) (had 𝓤 H A W (sender.signature .params)) $ keep ! (2 ∷ 0 ∷ 3 ∷ 1 ∷ []) $
+      by ! (ends-owning W sender.ended stayed c ((κs, qs, tt, a, (v ∷ [], tt)), g) r (tt, tt) (tt, tt) u)))))

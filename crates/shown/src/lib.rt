@@ -22,30 +22,17 @@ pub struct ShownSheet<'a> {
 }
 
 // The sender that the facts show in a text.
-pub fn sender_in(text: &[u8], facts: Facts) -> &[u8]
+fn sender_in(text: &[u8], facts: Facts) -> &[u8]
     ensures { λ r. ⌜ now r ≡ senderIn (now (text .entry)) facts ⌝ }
 {
     span_in(text, facts.sender)
 }
 
 // The name that the facts show in a text.
-pub fn name_in(text: &[u8], facts: Facts) -> &[u8]
+fn name_in(text: &[u8], facts: Facts) -> &[u8]
     ensures { λ r. ⌜ now r ≡ nameIn (now (text .entry)) facts ⌝ }
 {
     span_in(text, facts.name)
-}
-
-// Writes the sentence of the sheet that the facts make with a text. Plain parameters: who has a text and facts needs no sheet that holds a slice.
-pub fn write_shown(buffer: &mut [u8], start: usize, text: &[u8], facts: Facts) -> WriteSheet
-    ensures { λ r. ⌜ (writeAnswer r ≡ writing (now (buffer .entry)) start (sheetWith (now (text .entry)) facts)) × (now (buffer .exit) ≡ after (now (buffer .entry)) start (sheetWith (now (text .entry)) facts)) ⌝ }
-{
-    readback::write_cap(
-        buffer,
-        start,
-        facts.facts,
-        sender_in(text, facts),
-        name_in(text, facts),
-    )
 }
 
 // The sheet of facts and the text in which its sender and name stand.
@@ -69,9 +56,16 @@ pub fn name<'a>(s: ShownSheet<'a>) -> &'a [u8]
     name_in(s.text, s.facts)
 }
 
-// The sheet's other facts.
-pub fn facts_of<'a>(s: ShownSheet<'a>) -> CapFacts
-    ensures { λ r. ⌜ r ≡ s .entry .facts .facts ⌝ }
+// Writes the sheet's sentence, of the sender and the name that it shows.
+pub fn write<'a>(buffer: &mut [u8], start: usize, s: ShownSheet<'a>) -> WriteSheet
+    ensures { λ r. ⌜ (writeAnswer r ≡ writing (now (buffer .entry)) start (sheetWith (now (s .entry .text)) (s .entry .facts))) × (now (buffer .exit) ≡ after (now (buffer .entry)) start (sheetWith (now (s .entry .text)) (s .entry .facts))) ⌝ }
 {
-    s.facts.facts
+    readback::write_cap(buffer, start, s.facts.facts, sender(s), name(s))
+}
+
+// Writes the sentence of the sheet that the facts make with a text. Its parameters are plain, so no caller's proof meets the sheet.
+pub fn write_shown(buffer: &mut [u8], start: usize, text: &[u8], facts: Facts) -> WriteSheet
+    ensures { λ r. ⌜ (writeAnswer r ≡ writing (now (buffer .entry)) start (sheetWith (now (text .entry)) facts)) × (now (buffer .exit) ≡ after (now (buffer .entry)) start (sheetWith (now (text .entry)) facts)) ⌝ }
+{
+    write(buffer, start, make(text, facts))
 }

@@ -1,21 +1,18 @@
 -- `shown::make` meets its contract: a `ShownSheet` is made of the slice and the facts passed, and what these own is what it owns.
 -- Assumes nothing.
-use Rattle.walks.proofs.Walk.{refl, _∷_, [], length, URA, named, SProp, Memory, Routine, Heap, WpFn, Tables, Atoms, Fun, factI, emp, givenOf}
-use Rattle.walks.proofs.Walk.{tables, tablesOf, Given, ‵, raw, _$_, _∵_, !, qed, move, join, done, suffices, use0, use1}
+use Rattle.walks.proofs.Walk.{refl, _∷_, [], length, URA, named, Val, SProp, Memory, Routine, Heap, WpFn, Tables, Atoms, Fun, factI, emp, givenOf}
+use Rattle.walks.proofs.Walk.{tables, tablesOf, Given, ‵, raw, _$_, _∵_, !, qed, by, move, use0, use1}
 use Rattle.walks.proofs.Walk.{agg, and-then, no-more, sliceVal, owns, typesAt, u8, namedLft, tripleOf, Meets, entered, Stays, Vals, alive, atExit}
-use Rattle.walks.proofs.Walk.{ends-at}
 use Rattle.walks.proofs.Locals.{holds, enters, leaves}
-use Rattle.walks.proofs.Types.{shared, struct}
+use Rattle.walks.proofs.Types.{shared}
 use Rattle.walks.proofs.Steps.{local, sets}
-use Rattle.walks.proofs.Walked.{nothings, had, drops, all-drop, met}
+use Rattle.walks.proofs.Walked.{nothings, had, drops, all-drop, ends-owning, met}
 use denote.Struct.Laws as LL
 use denote.Struct.Rest.{own-shut}
 use Rattle.shown.specs.declared.ShownSheet.{ShownSheet}
 use Rattle.shown.proofs.ShownSheet as T
 use Rattle.shown.proofs.ShownSheet.Laws as T′
-use Rattle.shown.proofs.Facts as F
-use Rattle.shown.proofs.Facts.Laws as F′
-use Rattle.shown.proofs.Parts.{whole}
+use Rattle.shown.proofs.Sheets.{sheet, facts}
 use Rattle.shown.proofs.make.Key as key
 use Rattle.shown.proofs.make as make
 use Rattle.shown.proofs.make.Statement as stated
@@ -28,23 +25,21 @@ module _ {M : Type 1} (𝓤 : URA M) (H : Heap 𝓤) (A : Atoms 𝓤) (W : Given
   meets : Meets 𝓤 H A make.signature (WpFn 𝓤 H (𝓣 .C) (𝓣 .Λ) code.function) (make.spec 𝓤 H A mem run)
   meets = met W make.ended stayed (make.clauses 𝓤 H A mem run) (all-drop 𝓤 H A W (make.signature .params) (make.ended .kept)
       ((λ κs x f. refl), ((λ κs x f. refl), tt))) 𝓣 code.function
-      (λ κs. (shared (named 0) (κs .0) u8, (struct F.the-type F′.the-laws F′.the-plain .spelled, tt))) (λ κs qs b a g are are-typed.
+      (λ κs. (shared (named 0) (κs .0) u8, (facts .spelled, tt))) (λ κs qs b a g are are-typed.
       let made : ShownSheet = record { text = a .0; facts = a .1 .0 } in
-      let at : Vals make.signature κs = (sliceVal (a .0 .ptr) (length (a .0 .now)) ∷ [], (LL.val F.the-type F′.the-laws (a .1 .0) ∷ [], tt)) in
+      let v : Val = sheet (namedLft 1 0 tt κs) .val made in
+      let at : Vals make.signature κs = (sliceVal (a .0 .ptr) (length (a .0 .now)) ∷ [], (facts .spelled .val (a .1 .0) ∷ [], tt)) in
       qed W (raw (alive 𝓤 H A make.signature κs qs) ∷ ‵ (owns (typesAt (make.signature .params) κs) a at) ∷ []) ∵ enters ! code.function _
       (λ _. are-typed) (λ bs.
       sets ! 0 refl (agg ! (and-then ! (local ! 1 refl) (and-then ! (local ! 2 refl) (no-more !))))
-      (whole κs .lawful 𝓤 H A W .typed made _ (LL.owes (T.the-type (namedLft 1 0 tt κs)) (T′.the-laws (namedLft 1 0 tt κs)) made
-      (are .0, (are .1 .0, tt))) .0) $
-      leaves ! [] (whole κs .val made) (holds _ ∷ holds _ ∷ []) (raw (alive 𝓤 H A make.signature κs qs) ∷ ‵
-      (owns (typesAt (make.signature .params) κs) a at) ∷ []) $
-      suffices ! _ (ends-at 𝓤 H A make.ended stayed (make.clauses 𝓤 H A mem run) W ((κs, qs, tt, a, at), tt) (whole κs .val made) made (tt, (tt, tt))
-      (tt, (tt, tt))) $
-      move ! (1 ∷ []) $ use1 W (‵ (T.the-row (namedLft 1 0 tt κs) .own made (whole κs .val made ∷ [])))
+      (sheet (namedLft 1 0 tt κs) .lawful 𝓤 H A W .typed made (v ∷ [])
+      (LL.owes (T.the-type (namedLft 1 0 tt κs)) (T′.the-laws (namedLft 1 0 tt κs)) made (are .0, (are .1 .0, tt))) .0) $
+      leaves ! [] v (holds _ ∷ holds _ ∷ []) (raw (alive 𝓤 H A make.signature κs qs) ∷ ‵ (owns (typesAt (make.signature .params) κs) a at) ∷ []) $
+      move ! (1 ∷ []) $ use1 W (‵ (T.the-row (namedLft 1 0 tt κs) .own made (v ∷ [])))
       (own-shut 𝓤 H A W (T.the-type (namedLft 1 0 tt κs)) (T′.the-laws (namedLft 1 0 tt κs)) (a .0, (a .1 .0, tt))) $
-      use0 W (‵ (nothings (make.signature .params))) (had 𝓤 H A W (make.signature .params)) $ join ! $ move ! (1 ∷ 0 ∷ []) $ join ! $
       use0 W (raw (make.clauses 𝓤 H A mem run κs a .ensures tt made (atExit make.ended κs a (tt, (tt, tt))))) (factI 𝓤 _ (emp 𝓤) (refl, refl)) $
-      move ! (1 ∷ 0 ∷ []) $ done !))
+      use0 W (‵ (nothings (make.signature .params))) (had 𝓤 H A W (make.signature .params)) $ move ! (3 ∷ 0 ∷ 2 ∷ 1 ∷ []) $
+      by ! (ends-owning W make.ended stayed (make.clauses 𝓤 H A mem run) ((κs, qs, tt, a, at), tt) made (tt, (tt, tt)) (tt, (tt, tt)) v)))
 
 pub make-spec : {M : Type 1} → stated.statement M
 unfolding code.routine tablesOf
