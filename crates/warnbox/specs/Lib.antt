@@ -1,3 +1,4 @@
 pub mod Replies
+pub mod Packets
 pub mod Sentences
 pub mod Demand

@@ -1,13 +1,14 @@
 // Answers as numbers: what the functions for C give back.
 use crate::Reply;
 use document::Check;
+use packet::Packet;
 use packet::PacketPlace;
 use parts::CapPlace;
 use sheet::ReadBack;
 use sheet::WriteSheet;
 ghost use mathlib.Core.Path.{_≡_};
 ghost use mir.Val.{boolByte};
-ghost use Rattle.text.specs.Answers.{refuses, giving};
+ghost use Rattle.text.specs.Answers.{refuses, giving, answerNumber};
 ghost use Rattle.sheet.specs.Answers.{writeAnswer, readAnswer};
 ghost use Rattle.packet.specs.Packet as packet;
 ghost use Rattle.document.specs.Documents.{checkAnswer};
@@ -85,6 +86,16 @@ pub fn cap_place_reply(answer: CapPlace) -> Reply
             number: number,
             value: offset,
         },
+    }
+}
+
+// Every refusal of a packet has offset 0, so its number is all there is to tell.
+pub fn packet_number(read: Packet) -> u8
+    ensures { λ r. ⌜ r ≡ answerNumber (packet.packetAnswer read) ⌝ }
+{
+    match read {
+        Packet::Alert(fields) => 0,
+        Packet::Refused(fault) => packet::fault_number(fault),
     }
 }
 
