@@ -2,6 +2,7 @@
 // Every function gives the number of a refusal, 0 for none, and writes a value: a refusal's offset, or else what the function tells.
 mod replies; // replies.rt: answers as numbers
 mod documents; // documents.rt: CAP documents
+mod drawn; // drawn.rt: sheets that are drawn from documents and packets
 mod packets; // packets.rt: WARN packets
 mod sentences; // sentences.rt: writing a sheet, and reading a text back
 pub mod tables; // tables.rt: the event table as the caller lends it

@@ -1,20 +1,21 @@
 // WARN packets.
-use crate::Reply;
+use crate::drawn::from_packet;
+use crate::drawn::numbers_left;
+use crate::drawn::write_drawn;
+use crate::replies::drawn_reply;
 use crate::replies::packet_number;
 use crate::replies::packet_place_reply;
-use crate::replies::refused;
-use crate::writing::write_warn_sentence;
 use coordinates::Place;
 use packet::Fields;
 use packet::Packet;
-use packet::PacketSheet;
 use sheet::Span;
 ghost use mathlib.Core.Path.{_≡_};
 ghost use mathlib.Core.List.{[]};
 ghost use mir.Val.{boolByte};
 ghost use Rattle.text.specs.Answers.{giving, answerNumber};
 ghost use Rattle.sheet.specs.declared.Found.the-variants.{Warn};
-ghost use Rattle.packet.specs.Packet.{packetAnswer, packetOf, sheetAnswer, packetSheet, packetPlace};
+ghost use Rattle.packet.specs.Packet.{packetAnswer, packetOf, packetSheet, packetPlace};
+ghost use Rattle.numbers.specs.Numbers.{numbersOf};
 ghost use Rattle.warnbox.specs.Replies.{reply, givenOr};
 ghost use Rattle.warnbox.specs.Packets.{partsOf};
 ghost use Rattle.warnbox.specs.Sentences.{sentenceOf, afterSentence};
@@ -49,6 +50,7 @@ pub struct PacketParts {
     pub response: u8,
 }
 
+// The parts of a packet whose fields were read.
 fn parts_of(packet: &[u8], f: Fields) -> PacketParts
     ensures { λ r. ⌜ r ≡ partsOf (now (packet .entry)) f ⌝ }
 {
@@ -118,16 +120,6 @@ pub extern "C" fn warnbox_read_packet(packet: &[u8], parts: &mut PacketParts) ->
     read.number
 }
 
-// Writes the sentence of a sheet that was drawn from a packet.
-fn write_drawn(buffer: &mut [u8], start: usize, drawn: PacketSheet) -> Reply
-    ensures { λ r. ⌜ (r ≡ reply (sentenceOf (now (buffer .entry)) start [] (giving Warn (sheetAnswer drawn)))) × (now (buffer .exit) ≡ afterSentence (now (buffer .entry)) start [] (giving Warn (sheetAnswer drawn))) ⌝ }
-{
-    match drawn {
-        PacketSheet::Sheet(facts) => write_warn_sentence(buffer, start, facts),
-        PacketSheet::Refused(fault) => refused(packet::fault_number(fault), 0),
-    }
-}
-
 // Writes the sentence of a packet; the value is the sentence's end.
 #[no_mangle]
 pub extern "C" fn warnbox_packet_sentence(
@@ -140,10 +132,21 @@ pub extern "C" fn warnbox_packet_sentence(
         × (now (value .exit) ≡ reply (sentenceOf (now (buffer .entry)) start [] (giving Warn (packetSheet (now (packet .entry))))) .value)
         × (now (buffer .exit) ≡ afterSentence (now (buffer .entry)) start [] (giving Warn (packetSheet (now (packet .entry))))) ⌝ }
 {
-    let drawn = packet::packet_sheet(packet);
-    let reply = write_drawn(buffer, start, drawn);
+    let drawn = from_packet(packet::packet_sheet(packet));
+    let reply = write_drawn(buffer, start, packet, drawn);
     *value = reply.value;
     reply.number
+}
+
+// Draws the sheet of a packet, as numbers. A refused packet leaves `sheet` as it was.
+#[no_mangle]
+pub extern "C" fn warnbox_packet_sheet(packet: &[u8], sheet: &mut [u64; 15]) -> u8
+    ensures { λ r. ⌜ (r ≡ answerNumber (packetSheet (now (packet .entry))))
+        × (now (sheet .exit) ≡ givenOr (now (sheet .entry)) (giving numbersOf (giving Warn (packetSheet (now (packet .entry)))))) ⌝ }
+{
+    let drawn = from_packet(packet::packet_sheet(packet));
+    *sheet = numbers_left(drawn, *sheet);
+    drawn_reply(drawn).number
 }
 
 // Whether a place is inside a packet's circle; the value is 0 for outside, 1 for inside.

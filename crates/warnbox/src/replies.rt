@@ -1,5 +1,6 @@
 // Answers as numbers: what the functions for C give back.
 use crate::Reply;
+use crate::drawn::Drawn;
 use document::Check;
 use packet::Packet;
 use packet::PacketPlace;
@@ -14,6 +15,7 @@ ghost use Rattle.packet.specs.Packet as packet;
 ghost use Rattle.document.specs.Documents.{checkAnswer};
 ghost use Rattle.parts.specs.Places as parts;
 ghost use Rattle.warnbox.specs.Replies.{reply, sideNumber, countOf};
+ghost use Rattle.warnbox.specs.Drawn.{drawnAnswer, noMore};
 
 pub fn refused(number: u8, offset: usize) -> Reply
     ensures { λ r. ⌜ r ≡ reply (refuses number offset) ⌝ }
@@ -116,6 +118,18 @@ pub fn packet_place_reply(answer: PacketPlace) -> Reply
             value: 0,
         },
         PacketPlace::Refused(fault) => refused(packet::fault_number(fault), 0),
+    }
+}
+
+pub fn drawn_reply(drawn: Drawn) -> Reply
+    ensures { λ r. ⌜ r ≡ reply (giving noMore (drawnAnswer drawn)) ⌝ }
+{
+    match drawn {
+        Drawn::Sheet(found) => Reply {
+            number: 0,
+            value: 0,
+        },
+        Drawn::Refused(number, offset) => refused(number, offset),
     }
 }
 

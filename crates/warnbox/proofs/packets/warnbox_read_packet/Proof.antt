@@ -2,10 +2,10 @@
 -- it, and what that leaves is put there; then the struct is closed.
 -- Assumes nothing.
 use Rattle.walks.proofs.Walk.{_≡_, refl, _∷_, [], List, length, URA, named, w8, Val, vint, vptr, SProp, emp, id⊢, Memory, Routine, Heap, WpFn}
-use Rattle.walks.proofs.Walk.{Tables, Atoms, Fun, factI, givenOf, tables, tablesOf, Given, ‵, _⊛_, _$_, _∵_, !, qed, by, use1, move, keep, drop}
+use Rattle.walks.proofs.Walk.{Tables, Atoms, Fun, factI, givenOf, tables, tablesOf, Given, ‵, _⊛_, _$_, _∵_, !, qed, by, use1, move, keep}
 use Rattle.walks.proofs.Walk.{join, split, fsplit, fjoin, whole, sub, of-opd, look, look-raw, load, store-raw, assigns, from, hop, stop, and-then}
 use Rattle.walks.proofs.Walk.{no-more, nothing, Is, now, sliceVal, owns, typesAt, flft, ftrue, Triple, Vals, tripleOf, Meets, entered, cited, Stays}
-use Rattle.walks.proofs.Walk.{plain, u8, RattleType}
+use Rattle.walks.proofs.Walk.{plain, u8}
 use Rattle.walks.proofs.Locals.{holds, enters, leaves}
 use Rattle.walks.proofs.Types.{Plain, number, reference, shared, struct, typed}
 use Rattle.walks.proofs.Steps.{local, part, sets, lands-in}
