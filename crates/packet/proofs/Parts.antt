@@ -1,25 +1,23 @@
--- The parts of a packet: its TLV block and its signature.
-use mathlib.Core.Path.{_≡_}
-use mathlib.Core.List.{List, []}
-use Prim.Native.Nat.{ℕ, _-_, _<_}
+-- The parts of a packet: its TLV block, its signature and the bytes that are signed.
+use mathlib.Core.Path.{_≡_, refl}
+use mathlib.Core.List.{List, _++_}
+use Prim.Native.Nat.{ℕ, _-_}
 use native.Mathlib.Omega.{arith}
-use lib.ListN.{length, take, drop, length-drop}
+use lib.ListN.{length, drop, length-drop, take-append-drop}
 use lib.Seq.{take-all}
-use Rattle.packet.specs.Packet.{tlvOf, signatureOf}
+use Rattle.sheet.specs.Reading.{spanIn}
+use Rattle.packet.specs.Packet.{tlvOf, signatureOf, tlvSpan, signatureSpan, signedSpan}
 
 module _ (p : List ℕ) where
-  pub tlv-none : length p < 132 → [] ≡ tlvOf p
+  pub tlv-bytes : spanIn p (tlvSpan p) ≡ tlvOf p
   unfolding tlvOf
-  tlv-none h = let e : length p - 132 ≡ 0 = omega arith in rw e
+  tlv-bytes = refl
 
-  pub tlv-some : take (length p - 68 - 64) (drop 64 p) ≡ tlvOf p
-  unfolding tlvOf
-  tlv-some = let e : length p - 68 - 64 ≡ length p - 132 = omega arith in rw e
-
-  pub signature-whole : length p < 64 → p ≡ signatureOf p
+  pub signature-bytes : spanIn p (signatureSpan p) ≡ signatureOf p
   unfolding signatureOf
-  signature-whole h = let e : length p - 64 ≡ 0 = omega arith in rw e
+  signature-bytes = take-all 64 (drop (length p - 64) p) (rw (length-drop (length p - 64) p) (omega arith))
 
-  pub signature-last : take (length p - (length p - 64)) (drop (length p - 64) p) ≡ signatureOf p
+  -- the bytes that are signed, and then the signature, are the packet
+  pub signed-then-signature : spanIn p (signedSpan p) ++ signatureOf p ≡ p
   unfolding signatureOf
-  signature-last = take-all (length p - (length p - 64)) (drop (length p - 64) p) (rw (length-drop (length p - 64) p) (omega arith))
+  signed-then-signature = take-append-drop (length p - 64) p

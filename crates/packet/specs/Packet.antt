@@ -15,6 +15,7 @@ use Rattle.coordinates.specs.declared.Place.{Place}
 use Rattle.coordinates.specs.Place.{inRange}
 use Rattle.circle.specs.Circle.{aroundHolds}
 use Rattle.sheet.specs.declared.WarnFacts.{WarnFacts}
+use Rattle.sheet.specs.declared.Span.{Span}
 use Rattle.packet.specs.declared.Fields.{Fields}
 use Rattle.packet.specs.declared.Fault.{Fault}
 use Rattle.packet.specs.declared.Fault.the-variants as fault
@@ -68,6 +69,17 @@ tlvOf p = take (length p - 132) (drop 0x40 p)
 
 unfoldable pub signatureOf : List ℕ → List ℕ
 signatureOf p = drop (length p - 64) p
+
+-- where they stand in the packet, for callers that take its parts by offset and length; proofs/Parts.antt has that these are the parts' bytes
+abbrev pub tlvSpan : List ℕ → Span
+tlvSpan p = record { start = 0x40; len = length p - 132 }
+
+abbrev pub signatureSpan : List ℕ → Span
+signatureSpan p = record { start = length p - 64; len = 64 }
+
+-- what the signature signs: the bytes before it
+abbrev pub signedSpan : List ℕ → Span
+signedSpan p = record { start = 0; len = length p - 64 }
 
 abbrev pub epicentre : Fields → Place
 epicentre f = record { lat = f .lat; lon = f .lon }

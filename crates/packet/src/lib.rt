@@ -1,10 +1,14 @@
 // WARN 1.0 ALERT packets: their fields, their sheet, and whether their circle holds a place.
 use coordinates::Place;
+use sheet::Span;
 use sheet::WarnFacts;
+use sheet::span_in;
 ghost use mathlib.Core.Path.{_≡_};
 ghost use mathlib.Core.Bool.{true};
+ghost use Prim.Native.Nat.{_-_};
+ghost use lib.ListN.{length};
 ghost use Rattle.words.specs.Duration.{isLasting};
-ghost use Rattle.packet.specs.Packet.{tlvOf, signatureOf, lastingOf, packetOf, faultNumber, packetAnswer, sheetOfFields, packetSheet, sheetAnswer, packetPlace, placeAnswer};
+ghost use Rattle.packet.specs.Packet.{tlvOf, signatureOf, tlvSpan, signatureSpan, signedSpan, lastingOf, packetOf, faultNumber, packetAnswer, sheetOfFields, packetSheet, sheetAnswer, packetPlace, placeAnswer};
 
 mod bytes;
 mod checks;
@@ -67,26 +71,58 @@ pub enum PacketPlace {
     Refused(Fault),
 }
 
-// The part of a packet between its fields and its last 68 bytes; none where the packet is shorter than an ALERT.
+// How many bytes stand before the last n of a packet; 0 where it has fewer than n.
+fn before_last(p: &[u8], n: usize) -> usize
+    ensures { λ r. ⌜ r ≡ length (now (p .entry)) - n ⌝ }
+{
+    if p.len() < n {
+        return 0;
+    }
+    p.len() - n
+}
+
+// Where the TLV block stands: between the fields and the last 68 bytes. It is empty where the packet is shorter than an ALERT.
+pub fn tlv_span(p: &[u8]) -> Span
+    ensures { λ r. ⌜ r ≡ tlvSpan (now (p .entry)) ⌝ }
+{
+    Span {
+        start: 0x40,
+        len: before_last(p, 132),
+    }
+}
+
+// Where the signature stands: in the last 64 bytes.
+pub fn signature_span(p: &[u8]) -> Span
+    ensures { λ r. ⌜ r ≡ signatureSpan (now (p .entry)) ⌝ }
+{
+    Span {
+        start: before_last(p, 64),
+        len: 64,
+    }
+}
+
+// The bytes that the signature signs: those before it.
+pub fn signed_span(p: &[u8]) -> Span
+    ensures { λ r. ⌜ r ≡ signedSpan (now (p .entry)) ⌝ }
+{
+    Span {
+        start: 0,
+        len: before_last(p, 64),
+    }
+}
+
+// The TLV block of a packet; none where the packet is shorter than an ALERT.
 pub fn tlv_block(p: &[u8]) -> &[u8]
     ensures { λ r. ⌜ now r ≡ tlvOf (now (p .entry)) ⌝ }
 {
-    if p.len() < 132 {
-        return &p[..0];
-    }
-    let end = p.len() - 68;
-    &p[0x40..end]
+    span_in(p, tlv_span(p))
 }
 
-// The last 64 bytes of a packet; all of it where it is shorter.
+// The signature of a packet: its last 64 bytes, all of it where it is shorter.
 pub fn signature(p: &[u8]) -> &[u8]
     ensures { λ r. ⌜ now r ≡ signatureOf (now (p .entry)) ⌝ }
 {
-    if p.len() < 64 {
-        return p;
-    }
-    let start = p.len() - 64;
-    &p[start..]
+    span_in(p, signature_span(p))
 }
 
 // The fields of an ALERT packet, or why it is refused.

@@ -59,7 +59,8 @@ pub struct WarnFacts {
     pub response: u8,
 }
 
-// A part of a text.
+// A part of a text. C reads it, so it is laid out as C does.
+#[repr(C)]
 pub struct Span {
     pub start: usize,
     pub len: usize,

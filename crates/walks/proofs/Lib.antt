@@ -3,6 +3,7 @@ pub mod Locals
 pub mod Steps
 pub mod Calls
 pub mod Slices
+pub mod References
 pub mod Turns
 pub mod Walked
 pub mod Walk

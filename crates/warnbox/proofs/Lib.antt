@@ -1,6 +1,7 @@
 pub mod Pairs
 pub mod Places
 pub mod InText
+pub mod PacketSheets
 mod TableTypes
 pub mod Demand3
-pub mod Drawn
+pub mod HandedAgain

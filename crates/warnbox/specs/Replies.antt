@@ -11,6 +11,11 @@ abbrev pub reply : Answer ℕ → Reply
 reply (gives v) = record { number = 0; value = v }
 reply (refuses n p) = record { number = n; value = p }
 
+-- the value that is given, or else what was there: after a refusal nothing has changed
+abbrev pub givenOr : {A : Type 0} → A → Answer A → A
+givenOr before (gives x) = x
+givenOr before (refuses n p) = before
+
 -- whether a place is inside a part
 abbrev pub sideNumber : Side → ℕ
 sideNumber outside = 0

@@ -1,18 +1,20 @@
 // CAP documents.
-use crate::Reply;
+use crate::sheets::from_part;
+use crate::sheets::numbers_left;
+use crate::sheets::write_drawn;
 use crate::replies::cap_place_reply;
 use crate::replies::check_reply;
-use crate::replies::refused;
-use crate::writing::write_cap_sentence;
+use crate::replies::drawn_reply;
 use coordinates::Place;
-use parts::CapSheet;
 ghost use mathlib.Core.Path.{_≡_};
 ghost use Rattle.text.specs.Answers.{giving};
 ghost use Rattle.document.specs.Documents.{checkOf};
-ghost use Rattle.parts.specs.Sheets.{sheetAnswer, capSheet};
+ghost use Rattle.parts.specs.Sheets.{capSheet};
 ghost use Rattle.parts.specs.Places.{capPlace};
-ghost use Rattle.warnbox.specs.Replies.{reply, sideNumber};
+ghost use Rattle.numbers.specs.Numbers.{numbersOf};
+ghost use Rattle.warnbox.specs.Replies.{reply, givenOr, sideNumber};
 ghost use Rattle.warnbox.specs.Sentences.{sentenceOf, afterSentence};
+ghost use Rattle.warnbox.specs.Sheets.{noMore};
 
 // Checks a document; the value is its number of parts.
 #[no_mangle]
@@ -22,20 +24,6 @@ pub extern "C" fn warnbox_check_document(document: &[u8], value: &mut usize) -> 
     let reply = check_reply(document::check_document(document));
     *value = reply.value;
     reply.number
-}
-
-// Writes the sentence of a sheet that was drawn from a document.
-fn write_drawn(buffer: &mut [u8], start: usize, document: &[u8], drawn: CapSheet) -> Reply
-    ensures { λ r. ⌜ (r ≡ reply (sentenceOf (now (buffer .entry)) start (now (document .entry)) (sheetAnswer drawn))) × (now (buffer .exit) ≡ afterSentence (now (buffer .entry)) start (now (document .entry)) (sheetAnswer drawn)) ⌝ }
-{
-    match drawn {
-        CapSheet::Sheet(facts, sender, name) => {
-            write_cap_sentence(buffer, start, document, facts, sender, name)
-        }
-        CapSheet::NotThere => refused(21, 0),
-        CapSheet::OutOfRange => refused(7, 0),
-        CapSheet::Refused(number, offset) => refused(number, offset),
-    }
 }
 
 // Writes the sentence of a part of a document; the value is the sentence's end.
@@ -51,9 +39,28 @@ pub extern "C" fn warnbox_document_sentence(
         × (now (value .exit) ≡ reply (sentenceOf (now (buffer .entry)) start (now (document .entry)) (capSheet part (now (document .entry)))) .value)
         × (now (buffer .exit) ≡ afterSentence (now (buffer .entry)) start (now (document .entry)) (capSheet part (now (document .entry)))) ⌝ }
 {
-    let drawn = parts::cap_sheet(document, part);
+    let drawn = from_part(parts::cap_sheet(document, part));
     let reply = write_drawn(buffer, start, document, drawn);
     *value = reply.value;
+    reply.number
+}
+
+// Draws the sheet of a part of a document, as numbers; the value is 0. A refusal leaves `sheet` as it was.
+#[no_mangle]
+pub extern "C" fn warnbox_document_sheet(
+    document: &[u8],
+    part: usize,
+    sheet: &mut [u64; 15],
+    value: &mut usize,
+) -> u8
+    ensures { λ r. ⌜ (r ≡ reply (giving noMore (capSheet part (now (document .entry)))) .number)
+        × (now (value .exit) ≡ reply (giving noMore (capSheet part (now (document .entry)))) .value)
+        × (now (sheet .exit) ≡ givenOr (now (sheet .entry)) (giving numbersOf (capSheet part (now (document .entry))))) ⌝ }
+{
+    let drawn = from_part(parts::cap_sheet(document, part));
+    let reply = drawn_reply(drawn);
+    *value = reply.value;
+    *sheet = numbers_left(drawn, *sheet);
     reply.number
 }
 

@@ -5,6 +5,7 @@ mod replies; // replies.rt: answers as numbers
 mod documents; // documents.rt: CAP documents
 mod names; // names.rt: the names of refusals, and the library's version
 mod packets; // packets.rt: WARN packets
+mod sheets; // sheets.rt: sheets that are drawn from documents and packets
 mod sentences; // sentences.rt: writing a sheet, and reading a text back
 pub mod tables; // tables.rt: the event table as the caller lends it
 mod writing; // writing.rt: the sentence of a sheet, the answer as numbers

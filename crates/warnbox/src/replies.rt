@@ -1,6 +1,8 @@
 // Answers as numbers: what the functions for C give back.
 use crate::Reply;
+use crate::sheets::Drawn;
 use document::Check;
+use packet::Packet;
 use packet::PacketPlace;
 use parts::CapPlace;
 use refusals::WriteName;
@@ -8,13 +10,14 @@ use sheet::ReadBack;
 use sheet::WriteSheet;
 ghost use mathlib.Core.Path.{_≡_};
 ghost use mir.Val.{boolByte};
-ghost use Rattle.text.specs.Answers.{refuses, giving};
+ghost use Rattle.text.specs.Answers.{refuses, giving, answerNumber};
 ghost use Rattle.refusals.specs.Names.{nameAnswer};
 ghost use Rattle.sheet.specs.Answers.{writeAnswer, readAnswer};
 ghost use Rattle.packet.specs.Packet as packet;
 ghost use Rattle.document.specs.Documents.{checkAnswer};
 ghost use Rattle.parts.specs.Places as parts;
 ghost use Rattle.warnbox.specs.Replies.{reply, sideNumber, countOf};
+ghost use Rattle.warnbox.specs.Sheets.{drawnAnswer, noMore};
 
 pub fn refused(number: u8, offset: usize) -> Reply
     ensures { λ r. ⌜ r ≡ reply (refuses number offset) ⌝ }
@@ -90,6 +93,16 @@ pub fn cap_place_reply(answer: CapPlace) -> Reply
     }
 }
 
+// Every refusal of a packet has offset 0, so its number is all there is to tell.
+pub fn packet_number(read: Packet) -> u8
+    ensures { λ r. ⌜ r ≡ answerNumber (packet.packetAnswer read) ⌝ }
+{
+    match read {
+        Packet::Alert(fields) => 0,
+        Packet::Refused(fault) => packet::fault_number(fault),
+    }
+}
+
 pub fn packet_place_reply(answer: PacketPlace) -> Reply
     ensures { λ r. ⌜ r ≡ reply (giving boolByte (packet.placeAnswer answer)) ⌝ }
 {
@@ -107,6 +120,18 @@ pub fn packet_place_reply(answer: PacketPlace) -> Reply
             value: 0,
         },
         PacketPlace::Refused(fault) => refused(packet::fault_number(fault), 0),
+    }
+}
+
+pub fn drawn_reply(drawn: Drawn) -> Reply
+    ensures { λ r. ⌜ r ≡ reply (giving noMore (drawnAnswer drawn)) ⌝ }
+{
+    match drawn {
+        Drawn::Sheet(found) => Reply {
+            number: 0,
+            value: 0,
+        },
+        Drawn::Refused(number, offset) => refused(number, offset),
     }
 }
 

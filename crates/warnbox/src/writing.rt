@@ -2,12 +2,13 @@
 use crate::Reply;
 use crate::replies::write_reply;
 use sheet::CapFacts;
+use sheet::Found;
 use sheet::Span;
 use sheet::WarnFacts;
 use sheet::span_in;
 ghost use mathlib.Core.Path.{_≡_};
 ghost use Rattle.sheet.specs.Sheet.{cap, warn};
-ghost use Rattle.sheet.specs.Reading.{spanIn};
+ghost use Rattle.sheet.specs.Reading.{spanIn, sheetIn};
 ghost use Rattle.sheet.specs.Answers.{writing, after};
 ghost use Rattle.warnbox.specs.Replies.{reply};
 
@@ -36,4 +37,16 @@ pub fn write_warn_sentence(buffer: &mut [u8], start: usize, facts: WarnFacts) ->
     ensures { λ r. ⌜ (r ≡ reply (writing (now (buffer .entry)) start (warn facts))) × (now (buffer .exit) ≡ after (now (buffer .entry)) start (warn facts)) ⌝ }
 {
     write_reply(readback::write_warn(buffer, start, facts))
+}
+
+// Writes the sentence of a sheet, whose sender and name are parts of a text.
+pub fn write_sentence(buffer: &mut [u8], start: usize, text: &[u8], found: Found) -> Reply
+    ensures { λ r. ⌜ (r ≡ reply (writing (now (buffer .entry)) start (sheetIn (now (text .entry)) found))) × (now (buffer .exit) ≡ after (now (buffer .entry)) start (sheetIn (now (text .entry)) found)) ⌝ }
+{
+    match found {
+        Found::Cap(facts, sender, name) => {
+            write_cap_sentence(buffer, start, text, facts, sender, name)
+        }
+        Found::Warn(facts) => write_warn_sentence(buffer, start, facts),
+    }
 }

@@ -1,11 +1,13 @@
--- `signature` meets its contract: all of a short packet, or its last 64 bytes.
+-- `signature` meets its contract: it gives the bytes where the signature stands.
+use mathlib.Core.Path.{ap, _∙_}
 use borrow.Author.Needs.{needs}
-use Rattle.packet.proofs.Parts.{signature-whole, signature-last}
+use Rattle.sheet.specs.Reading.{spanIn}
+use Rattle.packet.proofs.Parts.{signature-bytes}
 use Rattle.packet.proofs.signature.Statement.{statement}
 use Rattle.packet.proofs.signature.Tie as tie
 
+returns : tie.Need-returns
+returns c = c .span-in .ensures ∙ ap (spanIn _) (c .before .signature-span .ensures) ∙ signature-bytes _
+
 pub signature-spec : {M : Type 1} → statement M
-signature-spec =
-    tie.close
-    (tie.spec (λ c. signature-whole _ (c .if1 .taken)) (λ c. search needs) (λ c. search needs) (λ c. search needs) (λ c. search needs)
-    (λ c. signature-last _))
+signature-spec = tie.close (tie.spec (λ c κs. search needs) (λ c κs. search needs) returns)
