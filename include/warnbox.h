@@ -39,7 +39,7 @@ uint32_t warnbox_version(void);
 #define WARNBOX_LONGEST_PACKET 1200
 #define WARNBOX_LONGEST_NAME 64 /* of a refusal */
 #define WARNBOX_MOST_PARTS 16
-#define WARNBOX_STACK 0
+#define WARNBOX_STACK 4096
 
 /* ---- refusals */
 
