@@ -58,8 +58,10 @@ module _ {M : Type 1} (𝓤 : URA M) (H : Heap 𝓤) (A : Atoms 𝓤) (W : Given
       let owed : Is F.the-row (d .facts) (m ∷ []) = LL.owed D L d (v ∷ []) (are .0) .1 .0 in
       qed W (raw (alive 𝓤 H A sender.signature κs qs) ∷ ‵ (owns (typesAt (sender.signature .params) κs) a (v ∷ [], tt)) ∷ []) ∵
       enters ! (handed f) _ (λ _. are-typed) (λ bs.
-      sets ! 2 refl (of-opd ! (part ! 1 {τ = text (named 0)} {d = 0} refl (sub ! {τs = in-sheet (named 0)} 0 {τ = text (named 0)} {d = 0} refl (whole !)))) (tt, are-typed .0 .1 .0) $
-      sets ! 3 refl (of-opd ! (part ! 1 {τ = F′.mir} {d = 16} refl (sub ! {τs = in-sheet (named 0)} 1 {τ = F′.mir} {d = 16} refl (whole !)))) (typed 𝓤 H A W facts (d .facts) owed .0) $
+      sets ! 2 refl (of-opd ! (part ! 1 {τ = text (named 0)} {d = 0} refl
+      (sub ! {τs = in-sheet (named 0)} 0 {τ = text (named 0)} {d = 0} refl (whole !)))) (tt, are-typed .0 .1 .0) $
+      sets ! 3 refl (of-opd ! (part ! 1 {τ = F′.mir} {d = 16} refl (sub ! {τs = in-sheet (named 0)} 1 {τ = F′.mir} {d = 16} refl (whole !))))
+      (typed 𝓤 H A W facts (d .facts) owed .0) $
       -- what the sheet owns is what f is asked
       move ! (9 ∷ []) $ fsplit ! $ use1 W (given (v ∷ [] ≡ v ∷ []) (‵ (all-own (D .parts) L (d .text, (d .facts, tt)))))
       (own-open 𝓤 H A W D L (d .text, (d .facts, tt)) v) $ learn ! (λ _. move ! (10 ∷ 0 ∷ []) $ join ! $

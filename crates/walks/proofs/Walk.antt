@@ -20,7 +20,7 @@ pub use contract.Monad.{Fun, factI}
 pub use contract.Running.{givenOf, tables}
 unfoldable pub use contract.Running.{tablesOf}
 pub use types.Kit.{Given, Item, given, learn, ‵, raw, _⊛_, _$_, _∵_, !, Go, Seq, runs, qed, by, move}
-pub use types.Kit.{keep, drop, split, join, use0, use1, use2, fsplit, fjoin, feqL, rewrite, atRet}
+pub use types.Kit.{keep, drop, split, join, use0, use1, use2, fsplit, fjoin, rewrite, atRet}
 pub use types.Part.{whole, sub, look-in, agg}
 pub use types.Run.{look, look-raw, load, store, store-raw, assigns, assigns-last, forget, exec, unit-lit, of-opd, bin, lit, addr, from, fld, hop}
 pub use types.Run.{stop, and-then, no-more}

@@ -3,7 +3,7 @@
 -- Assumes nothing.
 use Rattle.walks.proofs.Walk.{_≡_, refl, sym, _∷_, [], List, length, URA, named, Val, SProp, emp, id⊢, Memory, Routine}
 use Rattle.walks.proofs.Walk.{Heap, Env, WpFn, Tables, Atoms, Fun, factI, givenOf, tables, tablesOf, Lfts, RefT}
-use Rattle.walks.proofs.Walk.{Given, Item, ‵, _⊛_, _$_, _∵_, !, Go, Seq, runs, atRet, qed, by, use0, use1, move, drop, join, fsplit, fjoin, feqL, whole, sub}
+use Rattle.walks.proofs.Walk.{Given, Item, ‵, _⊛_, _$_, _∵_, !, Go, Seq, runs, atRet, qed, by, use0, use1, move, drop, join, fsplit, fjoin, whole, sub}
 use Rattle.walks.proofs.Walk.{look-in, agg, lit, addr, of-opd, load, assigns-last, forget, from, fld, hop, stop, and-then, no-more, Is, now, sliceVal, owns}
 use Rattle.walks.proofs.Walk.{typesAt, flft, ftrue, fsep, Fml, Triple, Vals, tripleOf, Meets, entered, cited, Stays, gave-slice, goes-gave-slice, plain}
 use Rattle.walks.proofs.Walk.{walkOf, RattleType}
@@ -11,7 +11,7 @@ use Rattle.walks.proofs.Locals.{empty, holds, Blocks, envOf, frame, enters, lea
 use Rattle.walks.proofs.Types.{mutable, typed}
 use Rattle.walks.proofs.Steps.{local, part, sets, lands-in}
 use Rattle.walks.proofs.Calls.{calls-some, beside}
-use Rattle.walks.proofs.Slices.{given-up}
+use Rattle.walks.proofs.Slices.{given-up, spent}
 use Rattle.walks.proofs.Turns.{switched}
 use Rattle.walks.proofs.Walked.{others, nothings, had, drops, all-drop, ends, met}
 use types.Kit.{Post}
@@ -110,9 +110,8 @@ module _ {M : Type 1} (𝓤 : URA M) (H : Heap 𝓤) (A : Atoms 𝓤) (W : Given
               assigns-last ! (of-opd ! (local ! 6 refl)) (from ! (stop !)) (init ! 8 refl (typed 𝓤 H A W receipt r made .0)) $
               forget ! 5 refl $ forget ! 6 refl $ forget ! 9 refl $ forget ! 10 refl $
               -- the token; what is said of the last list
-              move ! (1 ∷ []) $ fsplit ! $ fsplit ! $ move ! (1 ∷ []) $ feqL ! (λ long. use0 W (‵ (nothings (others (answer.signature .params))))
-              (had 𝓤 H A W (others (answer.signature .params))) $ move ! (1 ∷ 0 ∷ []) $ fjoin ! $ move ! (1 ∷ []) $ drop ! $ move ! (1 ∷ []) $
-              use1 W token (id⊢ 𝓤 _) $ then _ (finish (Passed item) r made (ws .0) long said))),
+              move ! (1 ∷ []) $ spent ! R (others (answer.signature .params)) (λ long. move ! (1 ∷ []) $ use1 W token (id⊢ 𝓤 _) $
+              then _ (finish (Passed item) r made (ws .0) long said))),
           ((λ z. absurd (clash z)), λ none. absurd (none .0 .1 refl)),
         ))
     matched (Refused r) is =

@@ -3,7 +3,7 @@
 -- Assumes nothing.
 use Rattle.walks.proofs.Walk.{_≡_, refl, ap, _∙_, _∷_, [], Bool, ℕ, List, length, URA, named, w8, w64, Val, vint, vbool, SProp, emp, id⊢}
 use Rattle.walks.proofs.Walk.{Memory, Routine, Heap, WpFn, Tables, Atoms, Fun, factI, givenOf, tables, tablesOf}
-use Rattle.walks.proofs.Walk.{Given, ‵, _⊛_, _$_, _∵_, !, qed, by, use0, use1, move, keep, join, split, fsplit, fjoin, feqL, drop}
+use Rattle.walks.proofs.Walk.{Given, ‵, _⊛_, _$_, _∵_, !, qed, by, use1, move, keep, join, split, fsplit, fjoin, drop}
 use Rattle.walks.proofs.Walk.{whole, sub, look-in, agg, lit, bin, addr, from, fld, hop, stop, and-then, no-more, nothing, now, sliceVal, owns}
 use Rattle.walks.proofs.Walk.{typesAt, flft, ftrue, Triple, Vals, tripleOf, Meets, entered, cited, Stays, gave-slice, goes-gave-slice, plain, u8, u32}
 use Rattle.walks.proofs.Walk.{u64, bool, RattleType}
@@ -11,7 +11,8 @@ use Rattle.walks.proofs.Locals.{holds, enters, leaves}
 use Rattle.walks.proofs.Types.{number, truth, mutable, shared, typed}
 use Rattle.walks.proofs.Steps.{local, part, sets, lands-in}
 use Rattle.walks.proofs.Calls.{calls-some, calls-plain, beside}
-use Rattle.walks.proofs.Walked.{others, nothings, had, drops, all-drop, ends, met}
+use Rattle.walks.proofs.Slices.{spent}
+use Rattle.walks.proofs.Walked.{others, drops, all-drop, ends, met}
 use Rattle.text.specs.Answers.{andThen, answerNumber}
 use Rattle.packet.specs.Packet.{packetOf}
 use Rattle.events.specs.declared.Entry.{Entry}
@@ -101,9 +102,8 @@ module _ {M : Type 1} (𝓤 : URA M) (H : Heap 𝓤) (A : Atoms 𝓤) (W : Given
       lands-in ! 4 refl (typed 𝓤 H A W (number w8) (answerNumber (receiptAnswer r)) small .0) $
       leaves ! (_ ∷ _ ∷ _ ∷ _ ∷ []) _ (holds _ ∷ holds _ ∷ holds _ ∷ holds _ ∷ holds _ ∷ holds _ ∷ holds _ ∷ holds _ ∷ holds _ ∷ holds _ ∷ []) [] $
       -- the entries' token; what is said of their last list; the other tokens; true
-      move ! (1 ∷ []) $ fsplit ! $ fsplit ! $ move ! (1 ∷ []) $ feqL ! (λ long. use0 W (‵ (nothings (others (receive.signature .params))))
-      (had 𝓤 H A W (others (receive.signature .params))) $ move ! (1 ∷ 0 ∷ []) $ fjoin ! $
-      move ! (2 ∷ []) $ use1 W (‵ (flft (κs .0) (qs .0)) ⊛ ‵ ftrue) (id⊢ 𝓤 _) $ split ! $ keep ! (0 ∷ 4 ∷ 2 ∷ []) $ join ! $
+      move ! (1 ∷ []) $ spent ! R (others (receive.signature .params)) (λ long. move ! (1 ∷ []) $
+      use1 W (‵ (flft (κs .0) (qs .0)) ⊛ ‵ ftrue) (id⊢ 𝓤 _) $ split ! $ keep ! (0 ∷ 3 ∷ 2 ∷ []) $ join ! $
       by ! (ends W receive.ended stayed (receive.clauses 𝓤 H A mem run) ((κs, qs, tt, a, at), tt) (answerNumber (receiptAnswer r))
       (ws .0, (tt, (tt, (tt, (tt, tt))))) (long, (tt, (tt, (tt, (tt, tt)))))
       (factI 𝓤 _ (emp 𝓤) (ap answerNumber (said .0 ∙ is-o .0), said .1 ∙ is-o .1))
