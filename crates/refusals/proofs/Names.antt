@@ -1,12 +1,13 @@
--- The answers to writing a name: the name of the number that a match found, and 21 for a number that it didn't find.
+-- The answers to writing a name: the name of the number that a match found, and 21 for a number that it didn't find; and how long names are.
 use mathlib.Core.Path.{_≡_, refl, sym}
 use mathlib.Core.Bool.{Bool, true, false, not, _||_}
 use mathlib.Core.List.{List, [], _∷_}
 use Prim.Native.Nat.{ℕ, _≤_}
-use lib.Dec.{ltb}
-use lib.ListN.{List·getD-eq-default}
+use native.Mathlib.Omega.{arith}
+use lib.Dec.{leb, ltb}
+use lib.ListN.{length, List·getD-eq-default}
 use mir.Val.{hasKey}
-use borrow.Author.Tests.{ltb-true, ltb-false, ne-eqb, not-true}
+use borrow.Author.Tests.{leb-true, ltb-true, ltb-false, ne-eqb, not-true}
 use Rattle.text.specs.Answers.{Answer, refuses}
 use Rattle.text.specs.Logic.{by-test, below-at, or-false}
 use Rattle.buffer.specs.Writing.{writeText, afterText}
@@ -47,3 +48,15 @@ no-name n t =
 pub unnamed : (d : List ℕ) (at : ℕ) {n : ℕ} → NoneOf numbered n → (refuses 21 0 ≡ naming d at n) × (d ≡ afterName d at n)
 unfolding naming afterName
 unnamed d at {n} t = rw (no-name n t) (refl, refl)
+
+-- ---- WARNBOX_LONGEST_NAME of the header is room for every name
+
+abbrev isShort : ℕ → Bool
+isShort n = leb (length (nameOf n)) 64
+
+pub name-le : (n : ℕ) → length (nameOf n) ≤ 64
+unfolding names nameOf
+name-le n =
+    by-test (ltb n 24)
+    (λ e. leb-true (length (nameOf n)) 64 (below-at 24 isShort tt n (ltb-true n 24 e)))
+    (λ e. let h : 24 ≤ n = ltb-false n 24 e in rw (List·getD-eq-default names [] {n = n} h) (omega arith))

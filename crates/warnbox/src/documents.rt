@@ -1,10 +1,10 @@
 // CAP documents.
-use crate::sheets::from_part;
-use crate::sheets::numbers_left;
-use crate::sheets::write_drawn;
 use crate::replies::cap_place_reply;
 use crate::replies::check_reply;
 use crate::replies::drawn_reply;
+use crate::sheets::from_part;
+use crate::sheets::numbers_left;
+use crate::sheets::write_drawn;
 use coordinates::Place;
 ghost use mathlib.Core.Path.{_≡_};
 ghost use Rattle.text.specs.Answers.{giving};

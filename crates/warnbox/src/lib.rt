@@ -1,12 +1,12 @@
 // The warning box for C: include/warnbox.h documents each function for its callers.
-// Every function but the event table's gives the number of a refusal, 0 for none, and writes a value: a refusal's offset, or else what the
-// function tells.
-mod replies; // replies.rt: answers as numbers
+// A function that can refuse gives the number of the refusal, 0 for none. Where there is something to tell, or a refusal has an offset, it writes a value:
+// the refusal's offset, or else what the function tells.
 mod documents; // documents.rt: CAP documents
 mod names; // names.rt: the names of refusals, and the library's version
 mod packets; // packets.rt: WARN packets
-mod sheets; // sheets.rt: sheets that are drawn from documents and packets
+mod replies; // replies.rt: answers as numbers
 mod sentences; // sentences.rt: writing a sheet, and reading a text back
+mod sheets; // sheets.rt: sheets that are drawn from documents and packets
 pub mod tables; // tables.rt: the event table as the caller lends it
 mod writing; // writing.rt: the sentence of a sheet, the answer as numbers
 

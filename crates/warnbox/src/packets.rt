@@ -1,10 +1,10 @@
 // WARN packets.
-use crate::sheets::from_packet;
-use crate::sheets::numbers_left;
-use crate::sheets::write_drawn;
 use crate::replies::drawn_reply;
 use crate::replies::packet_number;
 use crate::replies::packet_place_reply;
+use crate::sheets::from_packet;
+use crate::sheets::numbers_left;
+use crate::sheets::write_drawn;
 use coordinates::Place;
 use packet::Fields;
 use packet::Packet;
