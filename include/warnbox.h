@@ -16,9 +16,9 @@
  *  - what one call may write overlaps nothing else that is passed to it, and no other thread touches it meanwhile.
  * Any values may come: any bytes, any lengths, any numbers, any content of a table or a sheet.
  *
- * The library keeps nothing between calls, takes no memory and calls nothing but memcpy, memset and memcmp: every function is reentrant. No call takes
- * more stack than WARNBOX_STACK bytes (tests/stack.py adds up the frames of the archive's functions along their calls). The archive is for
- * x86-64 (any processor of that kind) with the System V calling convention, as on Linux.
+ * The library keeps nothing between calls, takes no memory and calls nothing but memcpy and memset: every function is reentrant. No call takes more
+ * stack than WARNBOX_STACK bytes, beside what these two take (tests/stack.py adds up the frames of the archive's functions along their calls). The archive is
+ * for x86-64 (any processor of that kind) with the System V calling convention, as on Linux.
  */
 #ifndef WARNBOX_H
 #define WARNBOX_H

@@ -3,7 +3,8 @@
 
     tests/stack.py [ARCHIVE]    writes a line for each exported function, and fails if one takes more than include/warnbox.h says (WARNBOX_STACK)
 
-No function calls itself or through a pointer, so the sum is a bound for every input. What memcpy, memset and memcmp take is the C library's.
+No function calls itself or through a pointer, so the sum is a bound for every input. What memcpy and memset take is the C library's, and so is what a
+dynamic linker takes that binds them at their first call.
 """
 import os
 import re
