@@ -17,8 +17,8 @@
  * Any values may come: any bytes, any lengths, any numbers, any content of a table or a sheet.
  *
  * The library keeps nothing between calls, takes no memory and calls nothing but memcpy and memset: every function is reentrant. No call takes more
- * stack than WARNBOX_STACK bytes, beside what these two take (tests/stack.py adds up the frames of the archive's functions along their calls). The archive is
- * for x86-64 (any processor of that kind) with the System V calling convention, as on Linux.
+ * stack than WARNBOX_STACK bytes, beside what these two take (tests/stack.py adds up the frames of the archive's functions along their calls).
+ * The archive is for x86-64 (any processor of that kind) with the System V calling convention, as on Linux.
  */
 #ifndef WARNBOX_H
 #define WARNBOX_H
@@ -34,38 +34,40 @@ extern "C" {
 #define WARNBOX_VERSION 10000
 uint32_t warnbox_version(void);
 
-#define WARNBOX_LONGEST_SENTENCE 651  /* bytes, its newline among them */
+/* in bytes */
+#define WARNBOX_LONGEST_SENTENCE 651 /* its newline among them */
 #define WARNBOX_LONGEST_DOCUMENT 65536
 #define WARNBOX_LONGEST_PACKET 1200
 #define WARNBOX_LONGEST_NAME 64 /* of a refusal */
-#define WARNBOX_MOST_PARTS 16
 #define WARNBOX_STACK 4096
+/* parts of a document */
+#define WARNBOX_MOST_PARTS 16
 
 /* ---- refusals */
 
 enum warnbox_refusal {
-    WARNBOX_PACKET_TOO_SHORT = 1,   /* under 8 bytes, or an alert under 132 */
-    WARNBOX_NOT_WARN = 2,           /* the first four bytes aren't "WARN" */
-    WARNBOX_VERSION_NOT_KNOWN = 3,  /* major version not 1 */
-    WARNBOX_NOT_ALERT = 4,          /* the ALERT flag is clear */
-    WARNBOX_PACKET_TOO_LONG = 5,    /* over 1,200 bytes */
-    WARNBOX_PLACE_OUT_OF_RANGE = 6, /* a packet's latitude or longitude, or that of a place asked about */
+    WARNBOX_PACKET_TOO_SHORT = 1,     /* under 8 bytes, or an alert under 132 */
+    WARNBOX_NOT_WARN = 2,             /* the first four bytes aren't "WARN" */
+    WARNBOX_VERSION_NOT_KNOWN = 3,    /* the major version isn't 1 */
+    WARNBOX_NOT_ALERT = 4,            /* the ALERT flag is clear */
+    WARNBOX_PACKET_TOO_LONG = 5,      /* over 1,200 bytes */
+    WARNBOX_PLACE_OUT_OF_RANGE = 6,   /* latitude or longitude of a packet, or of a place asked about */
     WARNBOX_LASTING_OUT_OF_RANGE = 7, /* a lasting time that isn't 1 to 31,536,000 seconds */
-    WARNBOX_KEY_NOT_LISTED = 8,
-    WARNBOX_NOT_VERIFIED = 9,
-    WARNBOX_SEQUENCE_NOT_ABOVE = 10, /* not above the number stored for the event */
-    WARNBOX_TABLE_FULL = 11,         /* the event has no entry, and none is free */
-    WARNBOX_CLOCK_TOO_LATE = 12,     /* above 2^64 - 65,536 */
-    WARNBOX_NO_ROOM = 13,            /* the start is past the buffer's end, or the sentence is longer than the room from there */
-    WARNBOX_TOO_LONG = 14,           /* a document over 65,536 bytes, a sender or identifier over 128, a 17th info */
-    WARNBOX_XML_FORM = 15,
-    WARNBOX_ELEMENT = 16, /* unknown, misplaced, repeated or missing */
-    WARNBOX_CODE = 17,    /* not in its list */
-    WARNBOX_TIME = 18,
-    WARNBOX_SENDER = 19,    /* a sender or identifier that is empty or has a forbidden byte */
-    WARNBOX_NOT_THERE = 21, /* no such part, sentence or name */
-    WARNBOX_SHAPE = 22,     /* a polygon or circle */
-    WARNBOX_NOT_SAID = 23   /* a text isn't whole read-backs, or a sheet has a fact out of range */
+    WARNBOX_KEY_NOT_LISTED = 8,       /* the packet's key id */
+    WARNBOX_NOT_VERIFIED = 9,         /* the signature, by the chip's verdict */
+    WARNBOX_SEQUENCE_NOT_ABOVE = 10,  /* not above the number that is stored for the event */
+    WARNBOX_NO_FREE_ENTRY = 11,       /* the event has no entry, and none is free */
+    WARNBOX_CLOCK_TOO_LATE = 12,      /* above 2^64 - 65,536 */
+    WARNBOX_NO_ROOM = 13,             /* the start is past the buffer's end, or there is less room than text */
+    WARNBOX_TOO_LONG = 14,            /* a document over 65,536 bytes, a sender or identifier over 128, a 17th info */
+    WARNBOX_XML_FORM = 15,            /* not the XML that is taken */
+    WARNBOX_ELEMENT = 16,             /* unknown, misplaced, repeated or missing */
+    WARNBOX_CODE = 17,                /* not in its list */
+    WARNBOX_TIME = 18,                /* not a time */
+    WARNBOX_SENDER = 19,              /* a sender or identifier that is empty or has a forbidden byte */
+    WARNBOX_NOT_THERE = 21,           /* no such part, sentence or name */
+    WARNBOX_SHAPE = 22,               /* not a polygon or circle */
+    WARNBOX_NOT_READ_BACKS = 23       /* a text isn't whole read-backs, or a sheet has a fact out of range */
 };
 
 /* Writes a refusal's short name into a buffer from `start` on, without an end mark. *value: the offset after it. Refusals: 21 for a number that
@@ -166,7 +168,8 @@ uint8_t warnbox_check_document(const uint8_t *document, size_t document_length, 
 uint8_t warnbox_document_sentence(uint8_t *buffer, size_t buffer_length, size_t start, const uint8_t *document, size_t document_length,
                                   size_t part, size_t *value);
 
-/* Gives the sheet of a part; its sender and name stand in the document. *value: 0. Refusals: the document's own, then 21, 7. */
+/* Gives the sheet of a part. Its sender and name stand in the document, which is then the text that warnbox_write takes; to keep the sheet longer than
+ * the document, copy the two and set where they stand. *value: 0. Refusals: the document's own, then 21, 7. */
 uint8_t warnbox_document_sheet(const uint8_t *document, size_t document_length, size_t part, struct warnbox_sheet *sheet, size_t *value);
 
 /* Whether a place lies inside a part. Latitude and longitude are in units of 1e-7 degree, south and west negative. *value: an enum warnbox_side.

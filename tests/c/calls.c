@@ -1,5 +1,5 @@
-/* Calls each function of include/warnbox.h on empty inputs, with null where a length is 0, and on a table of any bytes. It uses nothing but the header, so
- * that it compiles in every dialect of tests/c_interface.sh; what it returns is the number of the first check that fails, 0 for none. */
+/* Calls each function of include/warnbox.h on empty inputs, with null where a length is 0, and on a table of any bytes. It uses nothing but the header,
+ * so that it compiles in every dialect of tests/c_interface.sh; what it returns is the number of the first check that fails, 0 for none. */
 #include "warnbox.h"
 
 #define CHECK(holds)               \
@@ -16,7 +16,7 @@ static int check_texts(void) {
     CHECK(warnbox_version() == WARNBOX_VERSION);
     CHECK(warnbox_refusal_name(NULL, 0, 0, WARNBOX_TIME, &value) == WARNBOX_NO_ROOM && value == 0);
     CHECK(warnbox_refusal_name(NULL, 0, 0, 0, &value) == WARNBOX_NOT_THERE);
-    CHECK(warnbox_write(NULL, 0, 0, NULL, 0, &sheet, &value) == WARNBOX_NOT_SAID);
+    CHECK(warnbox_write(NULL, 0, 0, NULL, 0, &sheet, &value) == WARNBOX_NOT_READ_BACKS);
     CHECK(warnbox_count(NULL, 0, &value) == 0 && value == 0);
     CHECK(warnbox_read_back(NULL, 0, 1, &sheet, &value) == WARNBOX_NOT_THERE && sheet.facts.warn.urgent == 1);
     CHECK(warnbox_check_document(NULL, 0, &value) != 0);
