@@ -1,53 +1,51 @@
--- The answers to writing a name: the name of the number that a match found, and 21 for a number that it didn't find; and how long names are.
+-- The answers to writing a name, what the test over the table of names says of each of them, and how long names are.
 use mathlib.Core.Path.{_≡_, refl, sym}
-use mathlib.Core.Bool.{Bool, true, false, not, _||_}
-use mathlib.Core.List.{List, [], _∷_}
-use Prim.Native.Nat.{ℕ, _≤_}
+use mathlib.Core.Bool.{Bool, true, _&&_}
+use mathlib.Core.List.{List, []}
+use Prim.Native.Nat.{ℕ, _≤_, _<_}
 use native.Mathlib.Omega.{arith}
-use lib.Dec.{leb, ltb}
-use lib.ListN.{length, List·getD-eq-default}
-use mir.Val.{hasKey}
-use borrow.Author.Tests.{leb-true, ltb-true, ltb-false, ne-eqb, not-true}
+use lib.Dec.{eqb, leb, ltb}
+use lib.ListN.{length, getD, take, List·getD-eq-default}
+use lib.Seq.{length-take-le}
+use borrow.Author.Tests.{eqb-true, leb-true, ltb-true, ltb-false, lt-ltb}
 use Rattle.text.specs.Answers.{Answer, refuses}
-use Rattle.text.specs.Logic.{by-test, below-at, or-false}
+use Rattle.text.specs.Logic.{by-test, below-at, and-left, and-right, eql-true}
 use Rattle.buffer.specs.Writing.{writeText, afterText}
-use Rattle.refusals.specs.Names.{names, nameOf, hasName, naming, afterName}
+use Rattle.refusals.specs.Names.{names, nameOf, naming, afterName}
+use Rattle.refusals.specs.Table.{isRow, Rows}
 
--- the number n is k, whose name was written
+-- a number that has a name, which was written
 pub named :
-    (d : List ℕ) (at k : ℕ) {n : ℕ} {a : Answer ℕ} {e : List ℕ} → hasName k ≡ true → n ≡ k
-    → (a ≡ writeText d at (nameOf k)) × (e ≡ afterText d at (nameOf k)) → (a ≡ naming d at n) × (e ≡ afterName d at n)
+    (d : List ℕ) (at n : ℕ) {a : Answer ℕ} {e : List ℕ} → 0 < length (nameOf n)
+    → (a ≡ writeText d at (nameOf n)) × (e ≡ afterText d at (nameOf n)) → (a ≡ naming d at n) × (e ≡ afterName d at n)
 unfolding naming afterName
-named d at k h m w = rw (m, h) w
+named d at n h w = rw (lt-ltb 0 (length (nameOf n)) h) w
 
--- the numbers that have a name, from the last on
-abbrev numbered : List ℕ
-numbered = 23 ∷ 22 ∷ 21 ∷ 19 ∷ 18 ∷ 17 ∷ 16 ∷ 15 ∷ 14 ∷ 13 ∷ 12 ∷ 11 ∷ 10 ∷ 9 ∷ 8 ∷ 7 ∷ 6 ∷ 5 ∷ 4 ∷ 3 ∷ 2 ∷ 1 ∷ []
+-- a number that has none
+pub unnamed : (d : List ℕ) (at n : ℕ) → length (nameOf n) ≡ 0 → (refuses 21 0 ≡ naming d at n) × (d ≡ afterName d at n)
+unfolding naming afterName
+unnamed d at n e = rw e (refl, refl)
 
--- n is none of ks, as the last arm of a match knows it
-abbrev NoneOf : List ℕ → ℕ → Type 0
-NoneOf [] n = Prim.Unit
-NoneOf (k ∷ ks) n = NoneOf ks n × (n ≡ k → ⊥)
-
-none-of : (ks : List ℕ) (n : ℕ) → NoneOf ks n → hasKey ks n ≡ false
-none-of [] n t = refl
-none-of (k ∷ ks) n t = rw (ne-eqb k n (λ e. t .1 (sym e))) (none-of ks n (t .0))
-
--- n has no name, or is one of them
-abbrev namedOrNot : ℕ → Bool
-namedOrNot n = not (hasName n) || hasKey numbered n
-
-no-name : (n : ℕ) → NoneOf numbered n → hasName n ≡ false
+-- no number from 24 on has one
+pub no-name : (n : ℕ) → 24 ≤ n → length (nameOf n) ≡ 0
 unfolding names nameOf
-no-name n t =
-    by-test (ltb n 24)
-    (λ e. not-true (hasName n) (rw (none-of numbered n t, or-false) at (below-at 24 namedOrNot tt n (ltb-true n 24 e))))
-    (λ e. let h : 24 ≤ n = ltb-false n 24 e in rw (List·getD-eq-default names [] {n = n} h))
+no-name n h = rw (List·getD-eq-default names [] {n = n} h)
 
--- the number has no name
-pub unnamed : (d : List ℕ) (at : ℕ) {n : ℕ} → NoneOf numbered n → (refuses 21 0 ≡ naming d at n) × (d ≡ afterName d at n)
-unfolding naming afterName
-unnamed d at {n} t = rw (no-name n t) (refl, refl)
+module _ {rows : List (List ℕ)} {lengths : List ℕ} {n : ℕ} (p : Rows rows lengths n) where
+  here : isRow rows lengths n ≡ true
+  here = below-at 24 (isRow rows lengths) (p .right) n (p .number-below)
+
+  pub row-length : length (getD rows n []) ≡ 51
+  row-length = eqb-true (length (getD rows n [])) 51 (and-left _ _ (and-left _ _ here))
+
+  pub name-within : getD lengths n 0 ≤ 51
+  name-within = leb-true (getD lengths n 0) 51 (and-right (eqb (length (getD rows n [])) 51) _ (and-left _ _ here))
+
+  pub row-name : take (getD lengths n 0) (getD rows n []) ≡ nameOf n
+  row-name = eql-true _ _ (and-right (eqb (length (getD rows n [])) 51 && leb (getD lengths n 0) 51) _ here)
+
+  pub name-length : length (nameOf n) ≡ getD lengths n 0
+  name-length = rw (sym row-name) (length-take-le (getD lengths n 0) (getD rows n []) (rw row-length name-within))
 
 -- ---- WARNBOX_LONGEST_NAME of the header is room for every name
 
@@ -59,4 +57,4 @@ unfolding names nameOf
 name-le n =
     by-test (ltb n 24)
     (λ e. leb-true (length (nameOf n)) 64 (below-at 24 isShort tt n (ltb-true n 24 e)))
-    (λ e. let h : 24 ≤ n = ltb-false n 24 e in rw (List·getD-eq-default names [] {n = n} h) (omega arith))
+    (λ e. rw (no-name n (ltb-false n 24 e)) (omega arith))

@@ -1,9 +1,11 @@
 // The names of refusals, written into a lent buffer.
 use buffer::WriteText;
 use buffer::write_text;
+use text::first;
 ghost use mathlib.Core.Path.{_≡_};
 ghost use Rattle.buffer.specs.Writing.{writeText, afterText};
 ghost use Rattle.refusals.specs.Names.{nameAnswer, naming, afterName};
+ghost use Rattle.refusals.specs.Table.{Rows};
 
 // Where a name that was written ends; that the number has none; or that there was no room for it.
 pub enum WriteName {
@@ -11,6 +13,39 @@ pub enum WriteName {
     NotThere,
     NoRoom,
 }
+
+// The name of each number, from 0 on, filled up with spaces; 0 and 20 are no refusal's.
+const ROWS: [[u8; 51]; 24] = [
+    *b"                                                   ",
+    *b"packet too short                                   ",
+    *b"not a WARN packet                                  ",
+    *b"version not known                                  ",
+    *b"not an alert                                       ",
+    *b"packet too long                                    ",
+    *b"place out of range                                 ",
+    *b"lasting time out of range                          ",
+    *b"key not listed                                     ",
+    *b"signature not verified                             ",
+    *b"sequence number not above the stored one           ",
+    *b"no free entry in the table                         ",
+    *b"clock too late                                     ",
+    *b"no room in the buffer                              ",
+    *b"too long, or too many infos                        ",
+    *b"XML form not allowed                               ",
+    *b"element not allowed, or missing                    ",
+    *b"code not in its list                               ",
+    *b"time not valid                                     ",
+    *b"sender or identifier empty or with a forbidden byte",
+    *b"                                                   ",
+    *b"what was asked for is not there                    ",
+    *b"polygon or circle not valid                        ",
+    *b"not read-backs, or a fact out of range             ",
+];
+
+// How many bytes of its row each name has.
+const LENGTHS: [u8; 24] = [
+    0, 16, 17, 17, 12, 15, 18, 25, 14, 22, 40, 26, 14, 21, 27, 20, 31, 20, 14, 51, 0, 31, 27, 38,
+];
 
 // Writes a name that is given.
 fn write(buffer: &mut [u8], start: usize, name: &[u8]) -> WriteName
@@ -22,37 +57,32 @@ fn write(buffer: &mut [u8], start: usize, name: &[u8]) -> WriteName
     }
 }
 
+// Writes the name of a number, out of a table of names.
+fn write_row(
+    buffer: &mut [u8],
+    start: usize,
+    rows: &[[u8; 51]; 24],
+    lengths: &[u8; 24],
+    n: usize,
+) -> WriteName
+    requires { ⌜ Rows (now rows) (now lengths) n ⌝ }
+    ensures { λ r. ⌜ (nameAnswer r ≡ naming (now (buffer .entry)) start n) × (now (buffer .exit) ≡ afterName (now (buffer .entry)) start n) ⌝ }
+{
+    let row = rows[n];
+    let length = lengths[n] as usize;
+    if length == 0 {
+        return WriteName::NotThere;
+    }
+    write(buffer, start, first(&row, length))
+}
+
 // Writes the name of a refusal's number into the buffer from start on; changes nothing where there is none or it has no room.
 pub fn write_name(buffer: &mut [u8], start: usize, number: u8) -> WriteName
     ensures { λ r. ⌜ (nameAnswer r ≡ naming (now (buffer .entry)) start number) × (now (buffer .exit) ≡ afterName (now (buffer .entry)) start number) ⌝ }
 {
-    match number {
-        1 => write(buffer, start, b"packet too short"),
-        2 => write(buffer, start, b"not a WARN packet"),
-        3 => write(buffer, start, b"version not known"),
-        4 => write(buffer, start, b"not an alert"),
-        5 => write(buffer, start, b"packet too long"),
-        6 => write(buffer, start, b"place out of range"),
-        7 => write(buffer, start, b"lasting time out of range"),
-        8 => write(buffer, start, b"key not listed"),
-        9 => write(buffer, start, b"signature not verified"),
-        10 => write(buffer, start, b"sequence number not above the stored one"),
-        11 => write(buffer, start, b"no free entry in the table"),
-        12 => write(buffer, start, b"clock too late"),
-        13 => write(buffer, start, b"no room in the buffer"),
-        14 => write(buffer, start, b"too long, or too many infos"),
-        15 => write(buffer, start, b"XML form not allowed"),
-        16 => write(buffer, start, b"element not allowed, or missing"),
-        17 => write(buffer, start, b"code not in its list"),
-        18 => write(buffer, start, b"time not valid"),
-        19 => write(
-            buffer,
-            start,
-            b"sender or identifier empty or with a forbidden byte",
-        ),
-        21 => write(buffer, start, b"what was asked for is not there"),
-        22 => write(buffer, start, b"polygon or circle not valid"),
-        23 => write(buffer, start, b"not read-backs, or a fact out of range"),
-        _ => WriteName::NotThere,
+    let n = number as usize;
+    if 24 <= n {
+        return WriteName::NotThere;
     }
+    write_row(buffer, start, &ROWS, &LENGTHS, n)
 }
