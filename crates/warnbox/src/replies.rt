@@ -10,7 +10,7 @@ use sheet::ReadBack;
 use sheet::WriteSheet;
 ghost use mathlib.Core.Path.{_≡_};
 ghost use mir.Val.{boolByte};
-ghost use Rattle.text.specs.Answers.{refuses, giving, answerNumber};
+ghost use Rattle.text.specs.Answers.{gives, refuses, giving, answerNumber};
 ghost use Rattle.refusals.specs.Names.{nameAnswer};
 ghost use Rattle.sheet.specs.Answers.{writeAnswer, readAnswer};
 ghost use Rattle.packet.specs.Packet as packet;
@@ -19,11 +19,17 @@ ghost use Rattle.parts.specs.Places as parts;
 ghost use Rattle.warnbox.specs.Replies.{reply, sideNumber, countOf};
 ghost use Rattle.warnbox.specs.Sheets.{drawnAnswer, noMore};
 
+pub fn given(value: usize) -> Reply
+    ensures { λ r. ⌜ r ≡ reply (gives value) ⌝ }
+{
+    Reply { number: 0, value }
+}
+
 pub fn refused(number: u8, offset: usize) -> Reply
     ensures { λ r. ⌜ r ≡ reply (refuses number offset) ⌝ }
 {
     Reply {
-        number: number,
+        number,
         value: offset,
     }
 }
@@ -32,14 +38,8 @@ pub fn check_reply(check: Check) -> Reply
     ensures { λ r. ⌜ r ≡ reply (checkAnswer check) ⌝ }
 {
     match check {
-        Check::Accepted(parts) => Reply {
-            number: 0,
-            value: parts,
-        },
-        Check::Refused(number, offset) => Reply {
-            number: number,
-            value: offset,
-        },
+        Check::Accepted(parts) => given(parts),
+        Check::Refused(number, offset) => refused(number, offset),
     }
 }
 
@@ -47,18 +47,9 @@ pub fn write_reply(answer: WriteSheet) -> Reply
     ensures { λ r. ⌜ r ≡ reply (writeAnswer answer) ⌝ }
 {
     match answer {
-        WriteSheet::End(end) => Reply {
-            number: 0,
-            value: end,
-        },
-        WriteSheet::OutOfRange => Reply {
-            number: 23,
-            value: 0,
-        },
-        WriteSheet::NoRoom => Reply {
-            number: 13,
-            value: 0,
-        },
+        WriteSheet::End(end) => given(end),
+        WriteSheet::OutOfRange => refused(23, 0),
+        WriteSheet::NoRoom => refused(13, 0),
     }
 }
 
@@ -66,30 +57,12 @@ pub fn cap_place_reply(answer: CapPlace) -> Reply
     ensures { λ r. ⌜ r ≡ reply (giving sideNumber (parts.placeAnswer answer)) ⌝ }
 {
     match answer {
-        CapPlace::Inside => Reply {
-            number: 0,
-            value: 1,
-        },
-        CapPlace::Outside => Reply {
-            number: 0,
-            value: 0,
-        },
-        CapPlace::NoShape => Reply {
-            number: 0,
-            value: 2,
-        },
-        CapPlace::NotThere => Reply {
-            number: 21,
-            value: 0,
-        },
-        CapPlace::OutOfRange => Reply {
-            number: 6,
-            value: 0,
-        },
-        CapPlace::Refused(number, offset) => Reply {
-            number: number,
-            value: offset,
-        },
+        CapPlace::Outside => given(0),
+        CapPlace::Inside => given(1),
+        CapPlace::NoShape => given(2),
+        CapPlace::NotThere => refused(21, 0),
+        CapPlace::OutOfRange => refused(6, 0),
+        CapPlace::Refused(number, offset) => refused(number, offset),
     }
 }
 
@@ -107,18 +80,9 @@ pub fn packet_place_reply(answer: PacketPlace) -> Reply
     ensures { λ r. ⌜ r ≡ reply (giving boolByte (packet.placeAnswer answer)) ⌝ }
 {
     match answer {
-        PacketPlace::Inside => Reply {
-            number: 0,
-            value: 1,
-        },
-        PacketPlace::Outside => Reply {
-            number: 0,
-            value: 0,
-        },
-        PacketPlace::OutOfRange => Reply {
-            number: 6,
-            value: 0,
-        },
+        PacketPlace::Outside => given(0),
+        PacketPlace::Inside => given(1),
+        PacketPlace::OutOfRange => refused(6, 0),
         PacketPlace::Refused(fault) => refused(packet::fault_number(fault), 0),
     }
 }
@@ -127,10 +91,7 @@ pub fn drawn_reply(drawn: Drawn) -> Reply
     ensures { λ r. ⌜ r ≡ reply (giving noMore (drawnAnswer drawn)) ⌝ }
 {
     match drawn {
-        Drawn::Sheet(found) => Reply {
-            number: 0,
-            value: 0,
-        },
+        Drawn::Sheet(found) => given(0),
         Drawn::Refused(number, offset) => refused(number, offset),
     }
 }
@@ -139,22 +100,10 @@ pub fn read_reply(answer: ReadBack) -> Reply
     ensures { λ r. ⌜ r ≡ reply (giving countOf (readAnswer answer)) ⌝ }
 {
     match answer {
-        ReadBack::Count(n) => Reply {
-            number: 0,
-            value: n,
-        },
-        ReadBack::Sheet(n, found) => Reply {
-            number: 0,
-            value: n,
-        },
-        ReadBack::NotReadBack(offset) => Reply {
-            number: 23,
-            value: offset,
-        },
-        ReadBack::NotThere => Reply {
-            number: 21,
-            value: 0,
-        },
+        ReadBack::Count(n) => given(n),
+        ReadBack::Sheet(n, found) => given(n),
+        ReadBack::NotReadBack(offset) => refused(23, offset),
+        ReadBack::NotThere => refused(21, 0),
     }
 }
 
@@ -162,17 +111,8 @@ pub fn name_reply(answer: WriteName) -> Reply
     ensures { λ r. ⌜ r ≡ reply (nameAnswer answer) ⌝ }
 {
     match answer {
-        WriteName::End(end) => Reply {
-            number: 0,
-            value: end,
-        },
-        WriteName::NotThere => Reply {
-            number: 21,
-            value: 0,
-        },
-        WriteName::NoRoom => Reply {
-            number: 13,
-            value: 0,
-        },
+        WriteName::End(end) => given(end),
+        WriteName::NotThere => refused(21, 0),
+        WriteName::NoRoom => refused(13, 0),
     }
 }

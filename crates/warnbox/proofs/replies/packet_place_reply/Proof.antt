@@ -1,23 +1,12 @@
 -- By cases, as the definition goes.
 use borrow.Author.Needs.{needs}
-use mathlib.Core.Path.{sym, ap, _∙_}
-use Prim.Native.Nat.{ℕ}
-use mir.Val.{boolByte}
-use Rattle.text.specs.Answers.{refuses, giving}
-use Rattle.packet.specs.declared.PacketPlace.{PacketPlace}
-use Rattle.packet.specs.Packet.{placeAnswer}
-use Rattle.warnbox.specs.Replies.{reply}
 use Rattle.warnbox.proofs.replies.packet_place_reply.Statement.{statement}
 use Rattle.warnbox.proofs.replies.packet_place_reply.Tie as tie
-
-returns-4 : tie.Need-returns-4
-returns-4 c =
-    c .refused .ensures ∙ ap (λ (n : ℕ). reply (refuses n 0)) (c .before .fault-number .ensures) ∙ ap (λ (x : PacketPlace). reply (giving boolByte (placeAnswer x)))
-    (sym (c .before .before .before .answer .given .1))
 
 pub packet-place-reply-spec : {M : Type 1} → statement M
 packet-place-reply-spec =
     tie.close
-    (tie.spec (λ c. search needs) (λ c. search needs) (λ c. search needs) (λ c. search needs) (λ c κs. search needs) (λ c κs. search needs)
-    (λ c. ap (λ (x : PacketPlace). reply (giving boolByte (placeAnswer x))) (sym (c .enum-told .given .1))) (λ c. ap (λ (x : PacketPlace). reply (giving boolByte (placeAnswer x))) (sym (c .enum-told2 .given .1)))
-    (λ c. ap (λ (x : PacketPlace). reply (giving boolByte (placeAnswer x))) (sym (c .enum-told3 .given .1))) returns-4)
+    (tie.spec (λ c. search needs) (λ c κs. search needs) (λ c. search needs) (λ c κs. search needs) (λ c. search needs) (λ c κs. search needs)
+    (λ c. search needs) (λ c κs. search needs) (λ c κs. search needs) (λ c. rw (c .before .enum-told .given .1) (c .given .ensures))
+    (λ c. rw (c .before .enum-told2 .given .1) (c .given2 .ensures)) (λ c. rw (c .before .enum-told3 .given .1) (c .refused .ensures))
+    (λ c. rw (c .before .before .before .answer .given .1) (rw (c .before .fault-number .ensures) at (c .refused2 .ensures))))
