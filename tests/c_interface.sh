@@ -48,13 +48,13 @@ done
 
 # ---- the archive: linked from C and C++, run
 
-gcc -std=c11 -O2 -Iinclude tests/c/calls.c "$archive" -o "$folder/calls"
+try "C11, linked" gcc -std=c11 -O2 -Iinclude tests/c/calls.c "$archive" -o "$folder/calls"
 try "calls on empty inputs" "$folder/calls"
-g++ -x c++ -std=c++17 -O2 -Iinclude tests/c/calls.c -x none "$archive" -o "$folder/calls"
-try "calls on empty inputs, C++" "$folder/calls"
+try "C++17, linked" g++ -x c++ -std=c++17 -O2 -Iinclude tests/c/calls.c -x none "$archive" -o "$folder/calls_cpp"
+try "calls on empty inputs, C++" "$folder/calls_cpp"
 
 for example in sentence receipt; do
-    gcc -std=c99 -O2 -Iinclude "examples/$example.c" "$archive" -o "$folder/$example"
+    try "$example, linked" gcc -std=c99 -O2 -Iinclude "examples/$example.c" "$archive" -o "$folder/$example"
 done
 prints sentence tests/c/sentence.out <tests/vectors/007-I4.xml
 prints sentence tests/c/late-refusal.out <tests/c/late-refusal.xml

@@ -46,14 +46,20 @@ fn read_length() -> usize {
     number_of(front[0], front[1], front[2])
 }
 
-// Checks the next document, whose length is known: more bytes than the buffer holds are not read.
-fn check_next(buffer: &mut [u8], len: usize) {
+// Checks the next document, whose length is known; gives false where the buffer can't hold it or the input ends before it does.
+fn check_next(buffer: &mut [u8], len: usize) -> bool {
     let room = buffer.len();
     if room < len {
-        return;
+        print(b"document over 70000 bytes\n");
+        return false;
     }
     let n = io::read_full(STDIN_FILENO, &mut buffer[..len]);
+    if n < len {
+        print(b"document cut short\n");
+        return false;
+    }
     print_check(document::check_document(&buffer[..len]));
+    true
 }
 
 // Checks the documents of the input, at most a million.
@@ -65,7 +71,10 @@ fn main() {
         if len == NO_MORE {
             return;
         }
-        check_next(&mut buffer, len);
+        if !check_next(&mut buffer, len) {
+            return;
+        }
         i += 1;
     }
+    print(b"stopped after 1000000 documents\n");
 }

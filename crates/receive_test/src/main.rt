@@ -5,7 +5,7 @@ use coordinates::Place;
 use events::Entry;
 use events::Receipt;
 use events::Table;
-use libc::STDIN_FILENO;
+use input::Ending;
 use libc::STDOUT_FILENO;
 use packet::PacketPlace;
 use packet::PacketSheet;
@@ -211,7 +211,13 @@ fn record_end(input: &[u8], start: usize, len: u64) -> usize
 }
 
 fn main() {
-    let mut buffer = [0u8; 262144];
-    let n = io::read_full(STDIN_FILENO, &mut buffer);
-    run(&buffer[..n]);
+    let mut records = [0u8; 262144];
+    let read = input::read_input(&mut records);
+    let n = read.length;
+    let ending = read.ending;
+    match ending {
+        Ending::Whole => run(&records[..n]),
+        Ending::More => print(b"input over 262144 bytes\n"),
+        Ending::Failed => print(b"input can't be read\n"),
+    }
 }

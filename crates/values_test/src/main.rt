@@ -7,7 +7,7 @@ use coordinates::Inclusion;
 use coordinates::Pair;
 use coordinates::Place;
 use coordinates::Radius;
-use libc::STDIN_FILENO;
+use input::Ending;
 use libc::STDOUT_FILENO;
 use time::Time;
 ghost use Prim.Native.Nat.{_≤_};
@@ -66,20 +66,20 @@ fn print_radius(text: &[u8]) {
 
 // The words of a number, which stand after a space: its value, and its words written anew.
 fn print_number(text: &[u8]) {
-    let heard = spoken::read_number(text, 0);
-    io::print_decimal(STDOUT_FILENO, heard.value as u64);
+    let quantity = spoken::read_number(text, 0);
+    io::print_decimal(STDOUT_FILENO, quantity.value as u64);
     print(b" ");
     let mut words = [0u8; 256];
-    let end = spoken::write_number(&mut words, 0, heard.value);
+    let end = spoken::write_number(&mut words, 0, quantity.value);
     print_written(&words, end);
 }
 
 fn print_duration(text: &[u8]) {
-    let heard = spoken::read_duration(text, 0);
-    io::print_decimal(STDOUT_FILENO, heard.value as u64);
+    let quantity = spoken::read_duration(text, 0);
+    io::print_decimal(STDOUT_FILENO, quantity.value as u64);
     print(b" ");
     let mut words = [0u8; 512];
-    let end = spoken::write_duration(&mut words, 0, heard.value);
+    let end = spoken::write_duration(&mut words, 0, quantity.value);
     print_written(&words, end);
 }
 
@@ -196,7 +196,13 @@ fn print_cosines() {
 
 fn main() {
     print_cosines();
-    let mut buffer = io::large_buffer();
-    let n = io::read_full(STDIN_FILENO, &mut buffer);
-    print_cases(&buffer[..n]);
+    let mut cases = io::large_buffer();
+    let read = input::read_input(&mut cases);
+    let n = read.length;
+    let ending = read.ending;
+    match ending {
+        Ending::Whole => print_cases(&cases[..n]),
+        Ending::More => print(b"input over 65536 bytes\n"),
+        Ending::Failed => print(b"input can't be read\n"),
+    }
 }
