@@ -1,8 +1,8 @@
 /* Reads a WARN packet from a file, shows what the signature chip needs, and receives it twice into an event table: the second time it is refused,
  * since its number isn't above the one that is stored. Then the table is swept.
  *
- *     rt staticlib warnbox && cc -Iinclude examples/receipt.c target/staticlib/libwarnbox.a -o receipt
- *     xxd -r -p tests/vectors/warn-01-sample.hex > packet && ./receipt packet
+ *     rt staticlib warnbox && cc -Iinclude examples/receipt.c target/staticlib/libwarnbox.a -o target/receipt
+ *     xxd -r -p tests/vectors/warn-01-sample.hex > target/packet && target/receipt target/packet
  */
 #include <inttypes.h>
 #include <stdio.h>
