@@ -13,7 +13,7 @@ use Rattle.codes.specs.Lists as list
 use Rattle.codes.proofs.Each.{number-back}
 use Rattle.numbers.specs.Numbers.{at, hasNoPart, areCap, partFrom, capFrom, senderFrom, nameFrom}
 use Rattle.numbers.specs.Numbers.{areWarn, warnFrom, numbersSheet, numbersOfNone, numbersOfPart, capNumbers, warnNumbers, numbersOf}
-use Rattle.numbers.proofs.Tests.{joined-at, part-told, cap-told, part-there, warn-told}
+use Rattle.numbers.proofs.Tests.{joined-at, part-passed, cap-passed, part-there, warn-passed}
 use Rattle.numbers.proofs.Flags.{flag-number}
 
 -- ---- a list, spelt by what stands at each index
@@ -35,15 +35,15 @@ module _ (n : List ℕ) (fifteen : length n ≡ 15) where
   none-form : areCap n ≡ true → hasNoPart n ≡ true → capNumbers (capFrom n) (senderFrom n) (nameFrom n) ≡ n
   unfolding capFrom numbersOfNone
   none-form e h =
-      let told = cap-told n e in
+      let passed = cap-passed n e in
       let none =
       joined-at true
       (eqb (at n 4) 0 ∷ eqb (at n 5) 0 ∷ eqb (at n 6) 0 ∷ eqb (at n 7) 0 ∷ eqb (at n 8) 0 ∷ eqb (at n 9) 0 ∷ eqb (at n 10) 0 ∷ [])
       h
       in
-      rw (h, number-back list.msgType (at n 1) (told .message), number-back list.status (at n 2) (told .status), number-back list.scope (at n 3) (told .scope))
+      rw (h, number-back list.msgType (at n 1) (passed .message), number-back list.status (at n 2) (passed .status), number-back list.scope (at n 3) (passed .scope))
       (rw (
-        told .first,
+        passed .first,
         eqb-true (at n 4) 0 (none 0),
         eqb-true (at n 5) 0 (none 1),
         eqb-true (at n 6) 0 (none 2),
@@ -56,34 +56,34 @@ module _ (n : List ℕ) (fifteen : length n ≡ 15) where
   part-form : areCap n ≡ true → hasNoPart n ≡ false → capNumbers (capFrom n) (senderFrom n) (nameFrom n) ≡ n
   unfolding capFrom partFrom numbersOfPart
   part-form e h =
-      let told = cap-told n e in
-      let part = part-told n (part-there n e h) in
+      let passed = cap-passed n e in
+      let part = part-passed n (part-there n e h) in
       rw (
         h,
-        number-back list.msgType (at n 1) (told .message),
-        number-back list.status (at n 2) (told .status),
-        number-back list.scope (at n 3) (told .scope),
+        number-back list.msgType (at n 1) (passed .message),
+        number-back list.status (at n 2) (passed .status),
+        number-back list.scope (at n 3) (passed .scope),
         number-back list.urgency (at n 6) (part .urgency),
         number-back list.severity (at n 7) (part .severity),
         number-back list.certainty (at n 8) (part .certainty),
         part .lasting .stated-back,
         part .lasting .seconds-back,
       )
-      (rw (told .first) at all-spelt)
+      (rw (passed .first) at all-spelt)
 
   -- ---- WARN
 
   warn-form : areWarn n ≡ true → warnNumbers (warnFrom n) ≡ n
   unfolding warnFrom warnNumbers
   warn-form e =
-      let told = warn-told n e in
+      let passed = warn-passed n e in
       rw (
-        flag-number (at n 1) (told .urgent),
-        flag-number (at n 2) (told .update),
-        flag-number (at n 3) (told .cancel),
-        flag-number (at n 4) (told .test),
+        flag-number (at n 1) (passed .urgent),
+        flag-number (at n 2) (passed .update),
+        flag-number (at n 3) (passed .cancel),
+        flag-number (at n 4) (passed .test),
       )
-      (rw (told .first) at all-spelt)
+      (rw (passed .first) at all-spelt)
 
   -- ---- any sheet
 

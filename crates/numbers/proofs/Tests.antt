@@ -32,13 +32,13 @@ joined-at t (s ∷ l) e (suc i) = joined-at (t && s) l e i
 -- ---- a lasting time
 
 -- two numbers that stand for one fit its fields, and are its numbers
-pub record LastingTold (stated seconds : ℕ) : Type 0 where
+pub record LastingPassed (stated seconds : ℕ) : Type 0 where
   pub fits : seconds < 0x1_0000_0000
   pub stated-back : statedOf (lastingFrom stated seconds) ≡ stated
   pub seconds-back : secondsOf (lastingFrom stated seconds) ≡ seconds
 
-pub lasting-told : (stated seconds : ℕ) → areLasting stated seconds ≡ true → LastingTold stated seconds
-lasting-told stated seconds e =
+pub lasting-passed : (stated seconds : ℕ) → areLasting stated seconds ≡ true → LastingPassed stated seconds
+lasting-passed stated seconds e =
     by-test (eqb stated 1 && ltb seconds 0x1_0000_0000)
     (λ f.
     let one = eqb-true stated 1 (and-left (eqb stated 1) (ltb seconds 0x1_0000_0000) f) in
@@ -56,17 +56,17 @@ lasting-told stated seconds e =
 -- ---- a part
 
 -- its numbers fit its fields, and those of codes are in their lists
-pub record PartTold (n : List ℕ) : Type 0 where
+pub record PartPassed (n : List ℕ) : Type 0 where
   pub number : at n 4 < 0x100
   pub total : at n 5 < 0x100
   pub urgency : isNumber list.urgency (at n 6) ≡ true
   pub severity : isNumber list.severity (at n 7) ≡ true
   pub certainty : isNumber list.certainty (at n 8) ≡ true
-  pub lasting : LastingTold (at n 9) (at n 10)
+  pub lasting : LastingPassed (at n 9) (at n 10)
 
-pub part-told : (n : List ℕ) → arePart n ≡ true → PartTold n
+pub part-passed : (n : List ℕ) → arePart n ≡ true → PartPassed n
 unfolding arePart
-part-told n e =
+part-passed n e =
     let passed =
     joined-at true
     (ltb (at n 4) 0x100 ∷ ltb (at n 5) 0x100 ∷ isNumber list.urgency (at n 6) ∷ isNumber list.severity (at n 7)
@@ -79,22 +79,22 @@ part-told n e =
       urgency = passed 2;
       severity = passed 3;
       certainty = passed 4;
-      lasting = lasting-told (at n 9) (at n 10) (passed 5);
+      lasting = lasting-passed (at n 9) (at n 10) (passed 5);
     }
 
 -- ---- a CAP sheet
 
 -- its kind is CAP's, and its numbers of codes are in their lists
-pub record CapTold (n : List ℕ) : Type 0 where
+pub record CapPassed (n : List ℕ) : Type 0 where
   pub first : at n 0 ≡ 1
   pub message : isNumber list.msgType (at n 1) ≡ true
   pub status : isNumber list.status (at n 2) ≡ true
   pub scope : isNumber list.scope (at n 3) ≡ true
   pub parts : hasNoPart n || arePart n ≡ true
 
-pub cap-told : (n : List ℕ) → areCap n ≡ true → CapTold n
+pub cap-passed : (n : List ℕ) → areCap n ≡ true → CapPassed n
 unfolding areCap
-cap-told n e =
+cap-passed n e =
     let passed =
     joined-at true
     (eqb (at n 0) 1 ∷ isNumber list.msgType (at n 1) ∷ isNumber list.status (at n 2) ∷ isNumber list.scope (at n 3) ∷ (hasNoPart n || arePart n) ∷ [])
@@ -110,12 +110,12 @@ cap-told n e =
 
 -- one that has a part has numbers that stand for the part
 pub part-there : (n : List ℕ) → areCap n ≡ true → hasNoPart n ≡ false → arePart n ≡ true
-part-there n e h = rw h at (cap-told n e .parts)
+part-there n e h = rw h at (cap-passed n e .parts)
 
 -- ---- a WARN sheet
 
 -- its kind is WARN's, its flags are 0 or 1, and its numbers fit its fields
-pub record WarnTold (n : List ℕ) : Type 0 where
+pub record WarnPassed (n : List ℕ) : Type 0 where
   pub first : at n 0 ≡ 2
   pub urgent : isFlag (at n 1) ≡ true
   pub update : isFlag (at n 2) ≡ true
@@ -132,9 +132,9 @@ pub record WarnTold (n : List ℕ) : Type 0 where
   pub certainty : at n 13 < 0x100
   pub response : at n 14 < 0x100
 
-pub warn-told : (n : List ℕ) → areWarn n ≡ true → WarnTold n
+pub warn-passed : (n : List ℕ) → areWarn n ≡ true → WarnPassed n
 unfolding areWarn
-warn-told n e =
+warn-passed n e =
     let passed =
     joined-at true
     (eqb (at n 0) 2 ∷ isFlag (at n 1) ∷ isFlag (at n 2) ∷ isFlag (at n 3) ∷ isFlag (at n 4)

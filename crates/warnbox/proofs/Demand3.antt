@@ -33,14 +33,14 @@ use Rattle.warnbox.specs.Demand.{Handed, answerOf, WriteCall, sheetGiven
 
 -- ---- refusals have a number that isn't 0, so number and value give the answer back
 
-abbrev Told : Answer ℕ → Type 0
-Told a = answerOf (reply a .number) (reply a .value) ≡ a
+abbrev Restored : Answer ℕ → Type 0
+Restored a = answerOf (reply a .number) (reply a .value) ≡ a
 
-told : (d : List ℕ) (at : ℕ) (x : Sheet) → Told (writing d at x)
+restored : (d : List ℕ) (at : ℕ) (x : Sheet) → Restored (writing d at x)
 unfolding writing writeText
-told d at x =
-    cond-cases Told (inRange x) _ _
-    (λ e. cond-cases Told (hasRoom d at (sentence x)) _ _ (λ f. refl) (λ f. refl))
+restored d at x =
+    cond-cases Restored (inRange x) _ _
+    (λ e. cond-cases Restored (hasRoom d at (sentence x)) _ _ (λ f. refl) (λ f. refl))
     (λ e. refl)
 
 -- ---- what is handed in is a sheet, or refused with 23
@@ -72,7 +72,7 @@ as-writer d at t (refuses n p) none = (refl, refl)
 as-call : (h : Handed) (d : List ℕ) (at : ℕ) (r : Answer ℕ) (e : List ℕ) → WriteCall h d at r e → Call (sheetOf h) d at r e
 as-call h d at r e c =
     let s = as-writer d at (h .text) (handedIn (h .text) (h .numbers)) (handed-is (h .text) (h .numbers)) in
-    record { answer = c .answer ∙ rw (c .number-is, c .value-is, s .0) (told d at (sheetOf h)); buffer = c .buffer ∙ s .1 }
+    record { answer = c .answer ∙ rw (c .number-is, c .value-is, s .0) (restored d at (sheetOf h)); buffer = c .buffer ∙ s .1 }
 
 -- ---- what a sheet says, as it is handed in and by itself
 

@@ -2,12 +2,12 @@
 use native.Mathlib.Omega.{arith}
 use borrow.Author.Needs.{needs}
 use Rattle.numbers.specs.Numbers.{partFrom}
-use Rattle.numbers.proofs.Tests.{part-told}
+use Rattle.numbers.proofs.Tests.{part-passed}
 use Rattle.numbers.proofs.from_numbers.part_from.Statement.{statement}
 use Rattle.numbers.proofs.from_numbers.part_from.Tie as tie
 
 lasting-from-requires : tie.Need-lasting-from-requires
-lasting-from-requires c κs = part-told _ (c .before .before .before .before .before .before .before .before .before .before .pre) .lasting .fits
+lasting-from-requires c κs = part-passed _ (c .before .before .before .before .before .before .before .before .before .before .pre) .lasting .fits
 
 returns : tie.Need-returns
 unfolding partFrom
@@ -22,6 +22,6 @@ returns c =
 pub part-from-spec : {M : Type 1} → statement M
 part-from-spec =
     tie.close
-    (tie.spec (λ c. search needs) (λ c. let w = part-told _ (c .before .pre) in omega arith) (λ c. search needs)
-    (λ c. let w = part-told _ (c .before .before .pre) in omega arith) (λ c. search needs) (λ c κs. search needs) (λ c. search needs)
+    (tie.spec (λ c. search needs) (λ c. let w = part-passed _ (c .before .pre) in omega arith) (λ c. search needs)
+    (λ c. let w = part-passed _ (c .before .before .pre) in omega arith) (λ c. search needs) (λ c κs. search needs) (λ c. search needs)
     (λ c κs. search needs) (λ c. search needs) (λ c κs. search needs) (λ c. search needs) (λ c. search needs) lasting-from-requires returns)
