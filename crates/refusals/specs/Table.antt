@@ -1,4 +1,5 @@
--- Names as the source holds them, each in a row of 51 bytes, with how many of these it has: one test over the whole table. The functions of this crate alone use it.
+-- Names as the source holds them, each in a row of 51 bytes, with how many of these it has: one test over the whole table.
+-- The functions of this crate alone use it.
 use mathlib.Core.Bool.{Bool, _&&_}
 use mathlib.Core.List.{List, []}
 use Prim.Native.Nat.{ℕ, _<_}
