@@ -31,7 +31,7 @@ extern "C" {
 #endif
 
 /* Major times 10,000, minor times 100 and patch; warnbox_version gives that of the archive. */
-#define WARNBOX_VERSION 10000
+#define WARNBOX_VERSION 10100
 uint32_t warnbox_version(void);
 
 /* in bytes */
@@ -172,8 +172,8 @@ uint8_t warnbox_document_sentence(uint8_t *buffer, size_t buffer_length, size_t 
  * the document, copy the two and set where they stand. *value: 0. Refusals: the document's own, then 21, 7. */
 uint8_t warnbox_document_sheet(const uint8_t *document, size_t document_length, size_t part, struct warnbox_sheet *sheet, size_t *value);
 
-/* Whether a place lies inside a part. Latitude and longitude are in units of 1e-7 degree, south and west negative. *value: an enum warnbox_side.
- * Refusals: the document's own, then 21, 6. */
+/* Whether a place lies inside a part. Latitude and longitude are in units of 1e-7 degree, south and west negative. Circles reach across the date line,
+ * polygons lie on the flat grid. *value: an enum warnbox_side. Refusals: the document's own, then 21, 6. */
 uint8_t warnbox_document_place(const uint8_t *document, size_t document_length, size_t part, int32_t latitude, int32_t longitude,
                                size_t *value);
 
@@ -209,7 +209,7 @@ uint8_t warnbox_packet_sentence(uint8_t *buffer, size_t buffer_length, size_t st
 /* Gives the sheet of a packet. Refusals: 1 to 7. */
 uint8_t warnbox_packet_sheet(const uint8_t *packet, size_t packet_length, struct warnbox_sheet *sheet);
 
-/* Whether a place lies inside a packet's circle. *value: WARNBOX_OUTSIDE or WARNBOX_INSIDE. Refusals: 1 to 7, then 6 for the place. */
+/* Whether a place lies inside a packet's circle, across the date line too. *value: WARNBOX_OUTSIDE or WARNBOX_INSIDE. Refusals: 1 to 7, then 6 for the place. */
 uint8_t warnbox_packet_place(const uint8_t *packet, size_t packet_length, int32_t latitude, int32_t longitude, size_t *value);
 
 /* ---- the event table */

@@ -3,7 +3,7 @@
 
 The documents' sample alerts come from tests/vectors, with the answers stored there. The others are written here, one or more for each
 sentence of document 01's "The document" and "Refusal numbers". Each case gives the refusal's number; its place is marked in the document by
-MARK, which is taken out (no mark: the document's length). The answers were worked out from the paper; this script stops where tests/model/model.py
+MARK, which is taken out (no mark: the document's length). The answers were worked out from the paper; this script stops where tests/model/model02.py
 says otherwise.
 """
 import glob
@@ -12,7 +12,7 @@ import sys
 
 HERE = os.path.dirname(os.path.abspath(__file__))
 sys.path.insert(0, os.path.join(HERE, "model"))
-import model
+import model02 as model
 
 FOLDER = os.path.join(HERE, "..", "crates", "document_test")
 MARK = "¶"

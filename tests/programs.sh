@@ -1,5 +1,5 @@
 #!/usr/bin/env bash
-# Runs the built programs on the samples of tests/vectors and compares what they write byte for byte. Its last line is 'N passed, M failed'.
+# Runs the built programs on the samples of tests/vectors and tests/requests and compares what they write byte for byte. Its last line is 'N passed, M failed'.
 cd "$(dirname "$0")/.."
 passed=0
 failed=0
@@ -21,7 +21,7 @@ got=$(mktemp)
 wanted=$(mktemp)
 trap 'rm -f "$got" "$wanted"' EXIT
 
-for document in tests/vectors/*.xml; do
+for document in tests/vectors/*.xml tests/requests/*.xml; do
     target/bin/sentences <"$document" >"$got"
     expect "$document" "${document%.xml}.out" "$got"
 done
@@ -31,11 +31,11 @@ for packet in tests/vectors/*.hex; do
     expect "$packet" "${packet%.hex}.out" "$got"
 done
 
-# lines of tests/places.txt: NAME LATITUDE LONGITUDE ANSWER, with "/" for a line's end in the answer
-while read -r name latitude longitude answer; do
-    target/bin/inside "$latitude" "$longitude" <"tests/vectors/$name.xml" >"$got"
+# lines of tests/places.txt: DOCUMENT LATITUDE LONGITUDE ANSWER, with "/" for a line's end in the answer
+while read -r document latitude longitude answer; do
+    target/bin/inside "$latitude" "$longitude" <"tests/$document.xml" >"$got"
     echo "$answer" | tr / '\n' >"$wanted"
-    expect "$name $latitude $longitude" "$wanted" "$got"
+    expect "$document $latitude $longitude" "$wanted" "$got"
 done <tests/places.txt
 
 cat tests/vectors/007-I4.out tests/vectors/warn-01-sample.out >"$wanted"

@@ -1,5 +1,5 @@
 #!/usr/bin/env python3
-"""Writes crates/readback_test/stdout: what its list of writes and reads must answer, by tests/model/model.py.
+"""Writes crates/readback_test/stdout: what its list of writes and reads must answer, by tests/model/model02.py.
 
 The list is that of crates/readback_test/src/main.rt, said here once more as the model's sheets.
 """
@@ -7,7 +7,7 @@ import os
 import sys
 
 sys.path.insert(0, os.path.join(os.path.dirname(__file__), "model"))
-import model
+import model02 as model
 
 ROOM = 1020
 

@@ -1,5 +1,5 @@
 #!/usr/bin/env python3
-"""Writes crates/receive_test/stdin and stdout: packets, sound and damaged, for an event table, and what tests/model/model.py answers."""
+"""Writes crates/receive_test/stdin and stdout: packets, sound and damaged, for an event table, and what tests/model/model02.py answers."""
 import os
 import random
 import struct
@@ -7,11 +7,12 @@ import sys
 
 HERE = os.path.dirname(os.path.abspath(__file__))
 sys.path.insert(0, os.path.join(HERE, "model"))
-import model
+import model02 as model
 
 FOLDER = os.path.join(HERE, "..", "crates", "receive_test")
 KEYS = [21, 4_294_967_295, 7]
 PLACES = [(351_000_000, 1_357_000_000), (900_000_001, 0)]
+DATE_LINE = [(-168_000_000, 1_799_900_000), (0, 1_800_000_000), (0, -1_800_000_000), (900_000_000, 1_800_000_000)]
 
 
 def packet(event=7, sequence=2, ttl=60, flags=0x8000, timestamp=1_000_000, lasts=3_900, lat=350_000_000, lon=1_357_000_000,
@@ -22,8 +23,8 @@ def packet(event=7, sequence=2, ttl=60, flags=0x8000, timestamp=1_000_000, lasts
     return (head + bytes(range(256)) * 5)[:size - 68] + struct.pack(">I", key) + bytes(64)
 
 
-# an entry as the model has it: used, key, event, sequence, cancelled, keep-until
-BLANK = (False, 0, 0, 0, False, 0)
+# an entry as the model has it: used, key, event, sequence, cancelled, keep-until, and the timestamp and expiry of a later request
+BLANK = (False, 0, 0, 0, False, 0, 0, 0)
 
 
 def records():
@@ -86,6 +87,18 @@ def records():
             p[pick.randrange(0x40)] = pick.randrange(256)
         yield "R", pick.randrange(2 ** 33), pick.randrange(4) != 0, bytes(p)
     yield "T", 0, 0, b""
+    # epicentres across the date line from the places, on it, half way round, at the poles; radii that just reach and just don't
+    for lat in (-168_000_000, 0, 899_000_000, 900_000_000, -900_000_000):
+        for lon in (-1_799_900_000, 1_799_900_000, -1_800_000_000, 1_800_000_000, 0, 1, -1):
+            for radius in (0, 111, 112, 212, 213, 65_535):
+                yield "P", 0, 0, packet(lat=lat, lon=lon, radius=radius)
+    yield "P", 0, 0, packet(lon=1_800_000_001)
+
+
+def place_lines(p, places):
+    for place in places:
+        held = model.warn_place(p, *place)
+        yield b"refused %d at 0\n" % held[1] if held[0] == "refused" else held[0].encode() + b"\n"
 
 
 def answer_line(answer):
@@ -99,10 +112,12 @@ def main():
         if kind == "S":
             table = model.sweep(table, clock)
         elif kind == "T":
-            for i, (used, key, event, sequence, cancelled, keep) in enumerate(table):
+            for i, (used, key, event, sequence, cancelled, keep, _, _) in enumerate(table):
                 if used or keep:
                     out += b"%d %s %d %d %d%s %d\n" % (i, b"used" if used else b"free", key, event, sequence,
                                                        b" cancelled" if cancelled else b"", keep)
+        elif kind == "P":
+            out += b"".join(place_lines(p, DATE_LINE))
         else:
             answer = model.receive(table, p, KEYS, bool(verdict), clock)
             if answer[0] != "refused":
@@ -110,9 +125,7 @@ def main():
             out += answer_line(answer)
             drawn = model.warn_sheet(p)
             out += b"refused %d at 0\n" % drawn[1] if drawn[0] == "refused" else model.sentence(drawn[1])
-            for place in PLACES:
-                held = model.warn_place(p, *place)
-                out += b"refused %d at 0\n" % held[1] if held[0] == "refused" else held[0].encode() + b"\n"
+            out += b"".join(place_lines(p, PLACES))
     assert len(stdin) < 262_144, len(stdin)
     open(os.path.join(FOLDER, "stdin"), "wb").write(stdin)
     open(os.path.join(FOLDER, "stdout"), "wb").write(out)

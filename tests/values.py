@@ -1,7 +1,7 @@
 #!/usr/bin/env python3
 """Writes crates/values_test/stdin and stdout: cases at every limit, and their answers.
 
-The answers come from tests/model/model.py, which was written from document 01 alone, and from Python's own datetime and
+The answers come from tests/model/model02.py, which was written from document 01 alone, and from Python's own datetime and
 decimal modules. Run it from the repository's root after a change to the cases; the gate compares the program with stdout.
 """
 import datetime
@@ -10,7 +10,7 @@ import os
 import sys
 
 sys.path.insert(0, os.path.join(os.path.dirname(__file__), "model"))
-import model
+import model02 as model
 
 FOLDER = os.path.join(os.path.dirname(__file__), "..", "crates", "values_test")
 
@@ -170,6 +170,9 @@ def polygons():
         yield f"0,{lon:.7f}", flat
     yield "1,1", point
     yield "1,1.0000001", point
+    # the grid is flat: written across the date line, this is the wide one
+    for lon in ("0", "178.9999999", "179", "179.5", "180", "-180", "-179.5", "-179", "-178.9999999"):
+        yield f"0,{lon}", "-1,179 -1,-179 1,-179 1,179 -1,179"
     # the extremes of the products: a long edge, a place one unit off it
     long_edge = "-90,-180 90,180 90,179.9999999 -90,-180"
     for lon in ("0.0000001", "-0.0000001", "0", "179.9999999", "180"):
@@ -198,8 +201,46 @@ def circles():
         yield place, "0,180 20000"
         yield place, "0,-180 20000.000"
         yield place, "0,-179.99 50"
+    yield from date_line()
     for text in ("", " ", "0,0", "0,0 1 2", " \n0,0\t\r1 ", "0,0,1", "1 0,0", "0,0 -1", "0,0 20000.001", "0,0 1.2345", "91,0 1", "0,181 1"):
         yield "0,0", text
+
+
+def date_line():
+    """The shorter way round: across the date line, on it, half way round, at the poles."""
+    for lon in ("179.99", "-179.99", "179.9899999", "-179.9899999", "179.9900001", "180", "-180", "179.9999999", "-179.9999999"):
+        for radius in ("1.064", "1.065", "2.128", "2.129"):
+            yield f"-16.8,{lon}", f"-16.8,-179.99 {radius}"
+            yield f"-16.8,{lon}", f"-16.8,179.99 {radius}"
+        for line in ("180", "-180"):
+            yield f"0,{lon}", f"0,{line} 0"
+            yield f"60,{lon}", f"60,{line} 0"
+            yield f"0,{lon}", f"0,{line} 1.111"
+    # 1,800,000,000 is both ways' length, and at latitude 60 half of it is 10,007.55 km
+    for centre, places in (("0", ("180", "-180", "179.9999998", "-179.9999998")), ("90", ("-90", "-89.9999998", "-90.0000002")),
+                           ("-90.0000001", ("90", "89.9999999", "89.9999997", "90.0000001"))):
+        for lon in places:
+            yield f"60,{lon}", f"60,{centre} 10007.55"
+            yield f"60,{lon}", f"60,{centre} 10007.549"
+    for lon in ("180", "-180", "179.99", "-179.99", "0", "90"):
+        for centre in ("90,-180", "90,179.99", "89.9999999,-179.99", "-90,180", "-89.9,-179.99"):
+            yield f"{centre.split(',')[0]},{lon}", f"{centre} 0.1"
+    yield "0,180", "0,0 20000"
+    yield "0,-179.8642025", "0,0 20000"
+    yield "0,-179.8642026", "0,0 20000"
+
+
+# as crates/values_test/src/main.rt has them: around the date line, half way round from it, at the ends of i32
+LONGITUDES = (-2_147_483_648, -1_900_000_000, -1_800_000_001, -1_800_000_000, -1_799_999_999, -1_799_900_000, -900_000_000, -1,
+              0, 1, 900_000_001, 1_799_900_000, 1_799_999_999, 1_800_000_000, 1_800_000_001, 2_147_483_647)
+
+
+def shorter_way(a, b):
+    """The least of all ways from one longitude to another, full turns taken off or added; the model's where both are in range."""
+    way = min(abs(a - b + turns * 3_600_000_000) for turns in range(-2, 3))
+    if max(abs(a), abs(b)) <= model.LON_LIMIT:
+        assert model._longitude_difference(a, b) == way, (a, b)
+    return way
 
 
 def holds(shape, rule, place):
@@ -219,6 +260,9 @@ def main():
         entry = math.floor(10 ** 6 * math.cos(math.radians(i / 10)) + 0.5)
         assert model.COSINE[i] == entry, i
         answers.append(str(entry))
+    for a in LONGITUDES:
+        for b in LONGITUDES:
+            answers.append(str(shorter_way(a, b)))
     for text in times():
         add("T", text, time_answer(text))
     for n in numbers():

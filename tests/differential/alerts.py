@@ -115,8 +115,8 @@ class Writer:
         rng = self.rng
         if element in model.NAMES:
             return choices.name(rng)
-        if element in model.CODES:
-            return rng.choice(model.CODES[element]).encode()
+        if element in expected.CODES:
+            return rng.choice(expected.CODES[element]).encode()
         if element == "sent":
             return time_text(rng, self.sent)
         if element in model.TIMES:
@@ -143,10 +143,10 @@ class Writer:
     def contents(self, container):
         if container == "info":
             self.times = Times(self.rng, self.sent)
-        for element, least, most in model.SEQUENCES[container]:
+        for element, least, most in expected.SEQUENCES[container]:
             for _ in range(self.how_many(element, least, most)):
                 self.gap()
-                if element in model.SEQUENCES:
+                if element in expected.SEQUENCES:
                     self.start(element)
                     self.contents(element)
                     self.end(element)

@@ -2,6 +2,7 @@
 import re
 
 import edges
+import expected
 
 PIECES = [b"<", b">", b"/", b"&", b"]]>", b"]]", b"<!--", b"-->", b"--", b"-", b"'", b'"', b"=", b" ", b"\n", b"\t", b"\x00", b"\x0b", b"\x1f", b"\x7f", b"\x80", b"\xef\xbb\xbf",
           b"<?xml ", b"?>", b"<!DOCTYPE a>", b"<![CDATA[x]]>", b"&amp;", b"&lt;", b"&quot", b"&#1;", b"<info>", b"</info>", b"<area>", b"</area>", b"<info/>", b"<x>", b"</x>", b"<code/>",
@@ -10,8 +11,8 @@ PIECES = [b"<", b">", b"/", b"&", b"]]>", b"]]", b"<!--", b"-->", b"--", b"-", b
 TEXT_PIECES = [b"", b" ", b"\n", b",", b".", b"+", b"-", b"0", b"1", b"9", b"60", b"T", b":", b"x", b"A", b"&amp;", b"&lt", b"]]>", b"\x01", b"\xc3", b"0.0", b"180", b"90", b"00001",
                b"Public", b"Met", b"Past", b"Unknown", b"0000-", b"-14:01", b"+14:00", b"02-29", b"1,1 ", b" 5", b"x" * 100, b"y" * 129, b"<!-- c -->", b"<!-- ", b"<b>",
                b"<![CDATA[1]]>"]
-RULES = {"polygon": "polygon", "circle": "circle", **dict.fromkeys(edges.model.TIMES, "time"), **dict.fromkeys(edges.model.NAMES, "name"),
-         **dict.fromkeys(edges.model.CODES, "code")}
+RULES = {"polygon": "polygon", "circle": "circle", **dict.fromkeys(expected.model.TIMES, "time"), **dict.fromkeys(expected.model.NAMES, "name"),
+         **dict.fromkeys(expected.CODES, "code")}
 TAG = re.compile(rb"<[^<>]*>")
 ELEMENT = re.compile(rb"<([\w:]+)>[^<]*</\1>")
 

@@ -65,6 +65,6 @@ def sentence_length(document, part):
 
 def pick_place(rng, alert, part):
     if alert and 1 <= part <= len(alert.infos):
-        info = alert.infos[part - 1]
-        return shapes.place(rng, info.polygons, info.circles)
+        found = model._shapes(alert.infos[part - 1])
+        return shapes.place(rng, *([shape for _, kind, _, shape in found if kind == wanted] for wanted in ("polygon", "circle")))
     return shapes.place(rng, [], [])

@@ -1,6 +1,6 @@
 """What the model says of each call, in the form in which library.Library gives it.
 
-The model (tests/model/model.py) is used as it is; only its reading of the last document and of the last few hundred lines is remembered, since
+The model (tests/model/model02.py) is used as it is; only its reading of the last document and of the last few hundred lines is remembered, since
 many calls are made about one document or text. What the header adds to the papers (numbers of codes, sheets as numbers, a packet's parts, names of
 refusals, *value) is said here.
 """
@@ -10,7 +10,9 @@ import sys
 
 HERE = os.path.dirname(os.path.abspath(__file__))
 sys.path.insert(0, os.path.join(HERE, "..", "model"))
-import model
+import model02 as model
+
+SEQUENCES, CODES = model.SEQUENCES["1.2"], model.CODES["1.2"]
 
 CAP, WARN = 1, 2
 PLACES = {"outside": 0, "inside": 1, "noshape": 2}
@@ -25,7 +27,7 @@ CERTAINTIES = ("observed", "likely", "possible", "unlikely", "unknown")
 
 OUT_OF_RANGE = -1  # no fact of a sheet may be this
 
-VERSION = 10_000
+VERSION = 10_100
 NAMES = {1: b"packet too short", 2: b"not a WARN packet", 3: b"version not known", 4: b"not an alert", 5: b"packet too long",
          6: b"place out of range", 7: b"lasting time out of range", 8: b"key not listed", 9: b"signature not verified",
          10: b"sequence number not above the stored one", 11: b"no free entry in the table", 12: b"clock too late", 13: b"no room in the buffer",
@@ -53,24 +55,23 @@ class Remembered:
         return self.alert
 
 
-def with_offsets(content):
-    """The model's judgement of a text, which also remembers where the texts of an alert's own elements start."""
-    def judged(self, element, text, offset):
-        content(self, element, text, offset)
-        if self.stack[-1].element == "alert":
-            vars(self.alert).setdefault("offsets", {})[element] = offset
+def with_offset(content):
+    """The model's judgement of a text, which also remembers where the text starts."""
+    def judged(self, name, text, offset):
+        content(self, name, text, offset)
+        self.stack[-1].element.children[-1].offset = offset
     return judged
 
 
-model._Document.content = with_offsets(model._Document.content)
-model._document = Remembered(model._document)
+model._Document.content = with_offset(model._Document.content)
+model.Alert = Remembered(model.Alert)
 model._sheet_of_line = functools.lru_cache(maxsize=512)(model._sheet_of_line)
 
 
 def alert_of(document):
     """The model's reading of a document, None for a refused one."""
     try:
-        return model._document(document)
+        return model.Alert(document)
     except model.Refused:
         return None
 
@@ -124,8 +125,8 @@ def document_sheet(document, part, sheet):
     drawn = model.cap_sheet(document, part)
     if refused(drawn):
         return drawn[1], drawn[2], sheet
-    offsets = model._document(document).offsets
-    return 0, 0, numbers_of(drawn[1], offsets["sender"], offsets["identifier"])
+    root = model.Alert(document).root
+    return 0, 0, numbers_of(drawn[1], *(root.all(name)[0].offset for name in ("sender", "identifier")))
 
 
 def document_place(document, part, latitude, longitude):
@@ -159,15 +160,23 @@ def packet_place(packet, latitude, longitude):
     return asked(model.warn_place(packet, latitude, longitude))
 
 
-# ---- the event table
+# ---- the event table; the model's entries have two fields more, which are a later request's
+
+def widened(table):
+    return [(*entry, 0, 0) for entry in table]
+
+
+def narrowed(table):
+    return [entry[:6] for entry in table]
+
 
 def receive(table, packet, keys, verified, clock):
-    answer = model.receive(table, packet, keys, verified, clock)
-    return (answer[1], table) if refused(answer) else (0, answer[1])
+    answer = model.receive(widened(table), packet, keys, verified, clock)
+    return (answer[1], table) if refused(answer) else (0, narrowed(answer[1]))
 
 
 def sweep(table, time):
-    return 0, model.sweep(table, time)
+    return 0, narrowed(model.sweep(widened(table), time))
 
 
 def find_event(table, key, event):

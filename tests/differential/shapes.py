@@ -7,6 +7,7 @@ from choices import chance
 model = expected.model
 
 LATITUDE, LONGITUDE = model.LAT_LIMIT, model.LON_LIMIT
+FULL_TURN = 2 * LONGITUDE
 FARTHEST = 20_000_000  # metres
 GRAINS = (1, 7, 1_000, 10_000, 1_000_000, 10_000_000)
 
@@ -15,12 +16,19 @@ def clamp(value, limit):
     return max(-limit, min(limit, value))
 
 
+def in_turn(longitude):
+    """The same meridian within range: past 180 degrees comes -180."""
+    return longitude if abs(longitude) <= LONGITUDE else (longitude + LONGITUDE) % FULL_TURN - LONGITUDE
+
+
 def centre(rng):
     if chance(rng, 15):
         return (rng.choice((-LATITUDE, -LATITUDE + 1, -1, 0, 1, LATITUDE - 1, LATITUDE)),
                 rng.choice((-LONGITUDE, -LONGITUDE + 1, -1, 0, 1, LONGITUDE - 1, LONGITUDE)))
     if chance(rng, 15):  # at a step of the cosine table
         return rng.randint(-899, 899) * 1_000_000 + rng.choice((-1, 0, 0, 1)), rng.randint(-1_799, 1_799) * 1_000_000
+    if chance(rng, 15):  # near the date line
+        return rng.randint(-LATITUDE, LATITUDE), in_turn(LONGITUDE + rng.choice((1, -1)) * rng.randrange(rng.choice((10, 100_000, 100_000_000))))
     return rng.randint(-LATITUDE, LATITUDE), rng.randint(-LONGITUDE, LONGITUDE)
 
 
@@ -128,9 +136,11 @@ def near_circle(rng, shape):
     dy = rng.choice((0, u, u + 1, rng.randint(0, u), rng.randint(0, u), rng.randint(0, u)))
     dx = math.isqrt(max(u * u - dy * dy, 0))
     cosine = model.COSINE[abs(latitude) // 1_000_000]
-    # the largest longitude difference that is still taken for dx
+    # the largest longitude difference that is still taken for dx; or half way round, where both ways are as long
     across = ((dx + 1) * 10 ** 6 - 1) // cosine if cosine else rng.randrange(LONGITUDE)
-    return latitude + rng.choice((-1, 1)) * (dy + nudge(rng)), longitude + rng.choice((-1, 1)) * (across + nudge(rng))
+    across = LONGITUDE if chance(rng, 5) else across
+    east = longitude + rng.choice((-1, 1)) * (across + nudge(rng))
+    return latitude + rng.choice((-1, 1)) * (dy + nudge(rng)), in_turn(east) if chance(rng, 80) else east
 
 
 def anywhere(rng):

@@ -1,3 +1,4 @@
 pub mod Rules
+pub mod DateLine
 pub mod Near
 pub mod Texts

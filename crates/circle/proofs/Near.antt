@@ -16,7 +16,7 @@ use Rattle.coordinates.specs.declared.Place.{Place}
 use Rattle.integers.specs.Bits.{read, read-given, apart}
 use Rattle.integers.specs.Magnitude.{abs-sub-zero}
 use Rattle.circle.specs.Cosine.{cosines}
-use Rattle.circle.specs.Circle.{cosineAt, unitsOf, withinSquares, inCircle, aroundHolds}
+use Rattle.circle.specs.Circle.{cosineAt, unitsOf, shorterWay, withinSquares, inCircle, aroundHolds}
 use Rattle.circle.proofs.Rules.{entries, entry-le}
 
 -- ---- cosines
@@ -53,18 +53,18 @@ squares-wide x y u h = sym (lt-leb (x * x + y * y) (u * u) (omega (arith, above 
 pub squares-high : (x y u : ℕ) → u < y → false ≡ withinSquares x y u
 squares-high x y u h = sym (lt-leb (x * x + y * y) (u * u) (omega (arith, above y u h)))
 
-pub product-fits : (a k : ℕ) → a ≤ 4_294_967_295 → k ≤ 1_000_000 → Fits w64 (a * k)
-product-fits a k h g = let e : a * k ≤ 4_294_967_295 * 1_000_000 = mul-le-mul h g in record { fits = omega arith }
+pub product-fits : (a k : ℕ) → a ≤ 1_800_000_000 → k ≤ 1_000_000 → Fits w64 (a * k)
+product-fits a k h g = let e : a * k ≤ 1_800_000_000 * 1_000_000 = mul-le-mul h g in record { fits = omega arith }
 
 -- ---- a place near a centre
 
 module _ (clat clon lat lon : ℤ) (u : ℕ) (f₁ : SFits w32 clat) (f₂ : SFits w32 clon) (f₃ : SFits w32 lat) (f₄ : SFits w32 lon) where
   pub near-is :
-      (d k x y : ℕ) (r : Bool) → d ≡ natAbs (read w32 lon -ℤ read w32 clon) → k ≡ cosineAt (read w32 clat) → x ≡ d * k / 1_000_000
+      (d k x y : ℕ) (r : Bool) → d ≡ shorterWay (natAbs (read w32 lon -ℤ read w32 clon)) → k ≡ cosineAt (read w32 clat) → x ≡ d * k / 1_000_000
       → y ≡ natAbs (read w32 lat -ℤ read w32 clat) → r ≡ withinSquares x y u
-      → r ≡ withinSquares (natAbs (lon -ℤ clon) * cosineAt clat / 1_000_000) (natAbs (lat -ℤ clat)) u
+      → r ≡ withinSquares (shorterWay (natAbs (lon -ℤ clon)) * cosineAt clat / 1_000_000) (natAbs (lat -ℤ clat)) u
   near-is d k x y r ed ek ex ey er =
-      let ed′ = apart lon clon f₄ f₂ d ed in
+      let ed′ : d ≡ shorterWay (natAbs (lon -ℤ clon)) = ed ∙ rw (toZ-ofZ f₄, toZ-ofZ f₂) in
       let ek′ : k ≡ cosineAt clat = ek ∙ ap cosineAt (toZ-ofZ f₁) in
       let ey′ = apart lat clat f₃ f₁ y ey in
       er ∙ rw (ex, ed′, ek′, ey′)
@@ -78,7 +78,7 @@ module _ (c : Place) (metres : ℕ) (p : Place) where
 
   module _ (h : metres ≤ 20_000_000) (hcy : mag (c .lat) < 2_147_483_648) (hcx : mag (c .lon) < 2_147_483_648)
       (hpy : mag (p .lat) < 2_147_483_648) (hpx : mag (p .lon) < 2_147_483_648) (u : ℕ) (eu : u ≡ unitsOf metres) (r : Bool)
-      (er : r ≡ withinSquares (natAbs (read w32 (p .lon) -ℤ read w32 (c .lon)) * cosineAt (read w32 (c .lat)) / 1_000_000)
+      (er : r ≡ withinSquares (shorterWay (natAbs (read w32 (p .lon) -ℤ read w32 (c .lon))) * cosineAt (read w32 (c .lat)) / 1_000_000)
       (natAbs (read w32 (p .lat) -ℤ read w32 (c .lat))) u) where
     plain : r ≡ inCircle c metres p
     unfolding inCircle

@@ -1,7 +1,7 @@
--- Circles (document 01, "Is the studio inside"): their texts, and whether a place lies inside.
+-- Circles (document 01, "Is the studio inside", as amended by document 02, [3]): their texts, and whether a place lies inside.
 use mathlib.Core.Bool.{Bool, cond}
 use mathlib.Core.List.{List, [], _∷_}
-use Prim.Native.Nat.{ℕ, _+_, _*_, _/_}
+use Prim.Native.Nat.{ℕ, _+_, _-_, _*_, _/_, _%_, min}
 use lib.Dec.{leb}
 use lib.IntN.{ℤ, natAbs, _-ℤ_}
 use lib.ListN.{getD}
@@ -43,15 +43,23 @@ unitsOf metres = metres * 10_000_000 / 111_195
 abbrev pub latitudeApart : Place → Place → ℕ
 latitudeApart c p = natAbs (p .lat -ℤ c .lat)
 
--- "the plain longitude difference, without sign"
+-- 360 degrees
+abbrev pub fullTurn : ℕ
+fullTurn = 3_600_000_000
+
+-- "take the shorter way round, so the difference is never above 1,800,000,000": one way is the plain difference without sign, the other
+-- what is left of a full turn. A longitude out of range is that of the meridian it comes to: full turns don't count.
+unfoldable pub shorterWay : ℕ → ℕ
+shorterWay plain = min (plain % fullTurn) (fullTurn - plain % fullTurn)
+
 abbrev pub longitudeApart : Place → Place → ℕ
-longitudeApart c p = natAbs (p .lon -ℤ c .lon)
+longitudeApart c p = shorterWay (natAbs (p .lon -ℤ c .lon))
 
 -- "one for each tenth of a degree of the centre's latitude (rounded toward 0)"
 abbrev pub cosineAt : ℤ → ℕ
 cosineAt lat = getD cosines (natAbs lat / 1_000_000) 0
 
--- "dx the plain longitude difference, without sign, times cosine over 10^6, rounded down"
+-- "dx the .. longitude difference, without sign, times cosine over 10^6, rounded down"
 abbrev pub longitudeScaled : Place → Place → ℕ
 longitudeScaled c p = longitudeApart c p * cosineAt (c .lat) / 1_000_000
 

@@ -1,3 +1,4 @@
 pub mod Cosine
 pub mod Circle
+pub mod DateLine
 pub mod Samples

@@ -11,13 +11,16 @@ ghost use lib.IntN.{natAbs, _-ℤ_};
 ghost use lib.ListN.{getD};
 ghost use Rattle.coordinates.specs.Answers.{pairAnswer, radiusAnswer, inclusionAnswer};
 ghost use Rattle.circle.specs.Cosine.{cosines};
-ghost use Rattle.circle.specs.Circle.{cosineAt, unitsOf, withinSquares, aroundHolds, circleFrom, circleOf, circleAnswer, circleHolds};
+ghost use Rattle.circle.specs.Circle.{cosineAt, unitsOf, shorterWay, withinSquares, aroundHolds, circleFrom, circleOf, circleAnswer, circleHolds};
 
 // A circle that a text writes: its centre and its radius in metres.
 pub enum Circle {
     Around(Place, u32),
     Fault,
 }
+
+// 360 degrees, in units of 1e-7 degree.
+const FULL_TURN: u64 = 3_600_000_000;
 
 // 10^6 times the cosine of a number of tenths of a degree; 0 above 90 degrees.
 pub fn cosine(tenths: usize) -> u32
@@ -45,9 +48,21 @@ fn units_of(metres: u32) -> u64
     (metres as u64) * 10000000 / 111195
 }
 
+// How far apart two longitudes are, by the shorter way round. One out of range is that of the meridian it comes to.
+pub fn longitude_apart(a: i32, b: i32) -> u64
+    ensures { λ r. ⌜ r ≡ shorterWay (natAbs (a -ℤ b)) ⌝ }
+{
+    let one_way = coordinates::distance(a, b) % FULL_TURN;
+    let other_way = FULL_TURN - one_way;
+    if other_way < one_way {
+        return other_way;
+    }
+    one_way
+}
+
 // A longitude difference scaled by a cosine.
 fn scaled(apart: u64, cosine: u64) -> u64
-    requires { ⌜ (apart ≤ 4_294_967_295) × (cosine ≤ 1_000_000) ⌝ }
+    requires { ⌜ (apart ≤ 1_800_000_000) × (cosine ≤ 1_000_000) ⌝ }
     ensures { λ r. ⌜ r ≡ apart * cosine / 1_000_000 ⌝ }
 {
     apart * cosine / 1000000
@@ -70,10 +85,10 @@ fn within_squares(x: u64, y: u64, u: u64) -> bool
 // Whether a place lies within `u` units of a centre.
 fn is_near(centre_lat: i32, centre_lon: i32, u: u64, lat: i32, lon: i32) -> bool
     requires { ⌜ u ≤ 2_000_000_000 ⌝ }
-    ensures { λ r. ⌜ r ≡ withinSquares (natAbs (lon -ℤ «centre_lon») * cosineAt «centre_lat» / 1_000_000) (natAbs (lat -ℤ «centre_lat»)) u ⌝ }
+    ensures { λ r. ⌜ r ≡ withinSquares (shorterWay (natAbs (lon -ℤ «centre_lon»)) * cosineAt «centre_lat» / 1_000_000) (natAbs (lat -ℤ «centre_lat»)) u ⌝ }
 {
     let x = scaled(
-        coordinates::distance(lon, centre_lon),
+        longitude_apart(lon, centre_lon),
         cosine_at(centre_lat),
     );
     let y = coordinates::distance(lat, centre_lat);

@@ -2,18 +2,14 @@
 use mathlib.Core.Path.{_≡_, refl}
 use mathlib.Core.Bool.{true}
 use mathlib.Core.List.{List, [], _∷_, _++_}
-use Prim.Native.Nat.{ℕ, zero, suc, _/_, _%_, _^_}
+use Prim.Native.Nat.{ℕ}
 use Rattle.text.specs.Ascii.{ascii}
 use Rattle.text.specs.Answers.{gives, refuses, giving}
 use Rattle.packet.specs.BigEndian.{bigEndianFrom, numberOf}
 use Rattle.packet.specs.Packet.{flag, coordinate, fieldsOf, lastingOf, packetOf}
+use Rattle.packet.specs.Samples.{bytesOf}
 use Rattle.events.specs.declared.Entry.{Entry}
 use Rattle.events.specs.Table.{firstIndex, again, tableOutcome, isListed, checked, received}
-
--- a number in `width` bytes
-abbrev pub bytesOf : (width n : ℕ) → List ℕ
-bytesOf zero n = []
-bytesOf (suc width) n = n / 0x100 ^ width % 0x100 ∷ bytesOf width n
 
 -- an ALERT of 132 bytes: event 7 under key 21, timestamp 0, ttl 60, all else 0
 abbrev pub packetWith : (sequence expiry : ℕ) → List ℕ

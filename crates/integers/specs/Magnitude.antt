@@ -6,7 +6,7 @@ use native.Mathlib.Nat.{zero-add}
 use native.Mathlib.Omega.{arith}
 use borrow.Author.Tests.{ltb-true, ltb-false, lt-ltb, le-ltb}
 use lib.Dec.{ltb, leb·suc-suc}
-use lib.IntN.{ℤ, pos, negsuc, negℤ, natAbs, subℕ, _+ℤ_, _-ℤ_, _*ℤ_}
+use lib.IntN.{ℤ, pos, negsuc, negℤ, natAbs, subℕ, _+ℤ_, _-ℤ_, _*ℤ_, negℤ-negℤ, negℤ-+ℤ, +ℤ-comm}
 use lib.Signed.{mag, ltZ}
 
 pub abs-neg : (z : ℤ) → natAbs (negℤ z) ≡ natAbs z
@@ -34,6 +34,9 @@ abs-add (negsuc a) (negsuc b) = omega arith
 
 pub abs-sub : (x y : ℤ) → natAbs (x -ℤ y) ≤ natAbs x + natAbs y
 abs-sub x y = omega (arith, abs-add x (negℤ y), abs-neg y)
+
+pub abs-swap : (x y : ℤ) → natAbs (x -ℤ y) ≡ natAbs (y -ℤ x)
+abs-swap x y = sym (abs-neg (x -ℤ y)) ∙ ap natAbs (negℤ-+ℤ x (negℤ y) ∙ +ℤ-comm (negℤ x) (negℤ (negℤ y))) ∙ rw (negℤ-negℤ y)
 
 pub abs-sub-zero : (z : ℤ) → natAbs (z -ℤ pos 0) ≡ natAbs z
 abs-sub-zero (pos n) = omega arith

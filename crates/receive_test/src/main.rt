@@ -1,6 +1,6 @@
 // Feeds packets to an event table, and writes each answer and the table.
-// Standard input is a run of records: a letter ('R' to receive, 'S' to sweep, 'T' to write the table), a clock (8 bytes), a verdict
-// (1 byte), a length (2 bytes) and a packet. tests/receive.py writes the records and, by the independent model, the stored output.
+// Standard input is a run of records: a letter ('R' to receive, 'S' to sweep, 'T' to write the table, 'P' to ask about places near the
+// date line), a clock (8 bytes), a verdict (1 byte), a length (2 bytes) and a packet. tests/receive.py writes the records and, by the independent model, the stored output.
 use coordinates::Place;
 use events::Entry;
 use events::Receipt;
@@ -130,12 +130,48 @@ fn print_packet(bytes: &[u8]) {
     );
 }
 
+// The packet's answers for places just west of the date line, on it under both its longitudes, and at a pole.
+fn print_date_line(bytes: &[u8]) {
+    print_place(
+        bytes,
+        Place {
+            lat: -168000000,
+            lon: 1799900000,
+        },
+    );
+    print_place(
+        bytes,
+        Place {
+            lat: 0,
+            lon: 1800000000,
+        },
+    );
+    print_place(
+        bytes,
+        Place {
+            lat: 0,
+            lon: -1800000000,
+        },
+    );
+    print_place(
+        bytes,
+        Place {
+            lat: 900000000,
+            lon: 1800000000,
+        },
+    );
+}
+
 fn take_record(table: Table, kind: u8, clock: u64, verdict: bool, bytes: &[u8]) -> Table {
     if kind == b'S' {
         return events::sweep(table, clock);
     }
     if kind == b'T' {
         print_table(table);
+        return table;
+    }
+    if kind == b'P' {
+        print_date_line(bytes);
         return table;
     }
     let received = events::receive(table, bytes, &KEYS, verdict, clock);

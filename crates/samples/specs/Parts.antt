@@ -37,7 +37,7 @@ use Rattle.coordinates.specs.Decimal.{leads, places, fraction, decimalLength, i
 use Rattle.coordinates.specs.Place.{coordinateAt, degreesOf, pairOf}
 use Rattle.polygon.specs.Polygon.{polygonOf, placesOf, lastOf, isClosed, eastOf, northOf, onEdge, crosses, onRing, crossings, inRing, polygonHolds}
 use Rattle.circle.specs.Cosine.{cosines}
-use Rattle.circle.specs.Circle.{circleTokens, circleOf, inCircle, aroundHolds, circleHolds}
+use Rattle.circle.specs.Circle.{circleTokens, circleOf, shorterWay, inCircle, aroundHolds, circleHolds}
 use Rattle.codes.specs.Lists.{lists, codeOf, smallText}
 use Rattle.rules.specs.Texts.{nameRule, codeRule, timeRule, polygonRule, circleRule, textRule}
 use Rattle.document.specs.Elements.{starts, fold}
@@ -169,7 +169,7 @@ unfolding capSheet sheetIn lastsOf lookUp within fold starts documentOf firstSte
     opening.declaration texts.content texts.isFault texts.isReference comments.comment attribute.nameSpace attribute.declared attribute.prefixed
     attribute.equals attribute.value tags.tail tags.tagEnd startsWith numberFrom sentence sentenceIn capText partsText partText lastingText dictionary
     word spaced ones belowHundred belowThousand group numberCodes said counted durationCodes lasting capPlace anyText polygonRule circleRule
-    circleHolds aroundHolds inCircle cosines circleOf circleTokens radiusOf polygonHolds inRing onRing crossings onEdge crosses eastOf northOf
+    circleHolds aroundHolds inCircle shorterWay cosines circleOf circleTokens radiusOf polygonHolds inRing onRing crossings onEdge crosses eastOf northOf
     polygonOf placesOf isClosed lastOf pairOf degreesOf coordinateAt scaled fraction places decimalLength isDecimal leads tokens onToken
     longer
 samples = record {

@@ -1,4 +1,4 @@
-// Runs the definitions' values: all cosines, then each case of standard input, and writes the answers.
+// Runs the definitions' values: all cosines, longitude differences, then each case of standard input, and writes the answers.
 // A case is a letter for its kind, a text, '#' and a line feed. tests/values.py writes the cases
 // and, from other sources, the answers.
 use buffer::WriteText;
@@ -13,6 +13,26 @@ use time::Time;
 ghost use Prim.Native.Nat.{_≤_};
 ghost use lib.IntN.{natAbs};
 ghost use lib.ListN.{length};
+
+// Longitudes around the date line, half way round from it, and at the ends of i32.
+const LONGITUDES: [i32; 16] = [
+    -2_147_483_648,
+    -1_900_000_000,
+    -1_800_000_001,
+    -1_800_000_000,
+    -1_799_999_999,
+    -1_799_900_000,
+    -900_000_000,
+    -1,
+    0,
+    1,
+    900_000_001,
+    1_799_900_000,
+    1_799_999_999,
+    1_800_000_000,
+    1_800_000_001,
+    2_147_483_647,
+];
 
 fn print(text: &[u8]) {
     io::write_all(STDOUT_FILENO, text);
@@ -194,8 +214,22 @@ fn print_cosines() {
     }
 }
 
+// How far apart any two of the longitudes are, for circles.
+fn print_longitudes() {
+    let mut i = 0;
+    while i < 256 {
+        io::print_decimal(
+            STDOUT_FILENO,
+            circle::longitude_apart(LONGITUDES[i / 16], LONGITUDES[i % 16]),
+        );
+        print(b"\n");
+        i += 1;
+    }
+}
+
 fn main() {
     print_cosines();
+    print_longitudes();
     let mut cases = io::large_buffer();
     let read = input::read_input(&mut cases);
     let n = read.length;

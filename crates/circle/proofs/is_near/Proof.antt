@@ -1,21 +1,19 @@
 -- `circle::is_near` meets its contract: the two distances and the cosine are those of the definition.
-use Rattle.integers.specs.Bits.{apart-le}
+use Rattle.circle.proofs.DateLine.{shorter-le}
 use Rattle.circle.proofs.Near.{near-is}
 use borrow.Author.Needs.{needs}
 use Rattle.circle.proofs.is_near.Statement.{statement}
 use Rattle.circle.proofs.is_near.Tie as tie
 
 scaled-requires : tie.Need-scaled-requires
-scaled-requires c κs =
-    let f = c .before .before .fits in
-    (apart-le _ _ (f .lon) (f .centre-lon) _ (c .before .distance .ensures), c .cosine-at .ensures .1)
+scaled-requires c κs = (rw (c .before .longitude-apart .ensures) (shorter-le _), c .cosine-at .ensures .1)
 
 returns : tie.Need-returns
 returns c =
     let d = c .before .before .before in
     let s = d .before .before in
     near-is (s .args .centre-lat) _ (s .args .lat) _ _ (s .fits .centre-lat) (s .fits .centre-lon) (s .fits .lat) (s .fits .lon) _ _ _ _ _
-    (d .before .distance .ensures) (d .cosine-at .ensures .0) (c .before .before .scaled .ensures) (c .before .distance2 .ensures)
+    (d .before .longitude-apart .ensures) (d .cosine-at .ensures .0) (c .before .before .scaled .ensures) (c .before .distance .ensures)
     (c .within-squares .ensures)
 
 pub is-near-spec : {M : Type 1} → statement M
