@@ -1,6 +1,6 @@
 -- The longitude difference of circles: the shorter of two ways round.
-use mathlib.Core.Path.{_≡_, refl, sym, ap, _∙_}
-use mathlib.Core.Bool.{Bool, true, false, cond}
+use mathlib.Core.Path.{_≡_, sym, ap, _∙_}
+use mathlib.Core.Bool.{true}
 use Prim.Native.Nat.{ℕ, suc, _+_, _-_, _%_, _≤_, _<_}
 use native.Mathlib.Nat.{add-mod-right, mod-eq-sub-mod}
 use native.Mathlib.Omega.{arith}
@@ -13,7 +13,7 @@ use Rattle.coordinates.specs.Place.{latitudeLimit, longitudeLimit, within, inRa
 use Rattle.coordinates.proofs.Differences.{within-abs}
 use Rattle.integers.specs.Magnitude.{abs-swap, abs-sub}
 use Rattle.circle.specs.Circle.{fullTurn, shorterWay, longitudeApart, inCircle, aroundHolds}
-use Rattle.circle.specs.DateLine.{plainApart, ShorterWay, OneMeridian, SameCircles}
+use Rattle.circle.specs.DateLine.{plainApart, ShorterWay, SamePoint, SameCircles}
 
 -- ---- the two ways, by the plain difference
 
@@ -48,9 +48,10 @@ turned plain h =
 
 -- ---- of places
 
-pub in-range-lon : (p : Place) → inRange p ≡ true → natAbs (p .lon) ≤ 1_800_000_000
+in-range-lon : (p : Place) → inRange p ≡ true → natAbs (p .lon) ≤ 1_800_000_000
 in-range-lon p e = within-abs longitudeLimit (p .lon) (and-right (within latitudeLimit (p .lat)) (within longitudeLimit (p .lon)) e)
 
+-- of any two places, the longitude difference is the shorter way round
 pub shorter-way : (a b : Place) → ShorterWay a b
 unfolding shorterWay
 shorter-way a b = record {
@@ -81,10 +82,11 @@ further : (x y : ℤ) → x +ℤ pos fullTurn -ℤ y ≡ x -ℤ y +ℤ pos fullT
 further x y =
     +ℤ-assoc x (pos fullTurn) (negℤ y) ∙ ap (λ (z : ℤ). x +ℤ z) (+ℤ-comm (pos fullTurn) (negℤ y)) ∙ sym (+ℤ-assoc x (negℤ y) (pos fullTurn))
 
-meridian-apart : (c a b : Place) → OneMeridian a b → longitudeApart c b ≡ longitudeApart c a
+meridian-apart : (c a b : Place) → SamePoint a b → longitudeApart c b ≡ longitudeApart c a
 meridian-apart c a b m = rw (m .longitude, further (a .lon) (c .lon)) (turn (a .lon -ℤ c .lon))
 
-pub same-circles : (a b : Place) → OneMeridian a b → SameCircles a b
+-- however a point is written, circles answer alike
+pub same-circles : (a b : Place) → SamePoint a b → SameCircles a b
 unfolding aroundHolds inCircle
 same-circles a b m = record {
   held = λ c metres. rw (m .latitude, meridian-apart c a b m);

@@ -21,12 +21,12 @@ pub record ShorterWay (a b : Place) : Type 0 where
   -- 180 and -180 are one meridian
   pub date-line : a .lon ≡ pos 1_800_000_000 → b .lon ≡ negℤ (pos 1_800_000_000) → longitudeApart a b ≡ 0
 
--- places on one meridian: 180 and -180 or, out of range, 190 and -170
-pub record OneMeridian (a b : Place) : Type 0 where
+-- two ways to write one point of the earth: longitude -180 and 180 or, out of range, -170 and 190
+pub record SamePoint (a b : Place) : Type 0 where
   pub latitude : b .lat ≡ a .lat
   pub longitude : b .lon ≡ a .lon +ℤ pos fullTurn
 
--- they are one place to every circle, and the centre of the same circles
+-- every circle holds both or neither, and around both lie the same circles
 pub record SameCircles (a b : Place) : Type 0 where
   pub held : (centre : Place) (metres : ℕ) → aroundHolds centre metres b ≡ aroundHolds centre metres a
   pub centred : (place : Place) (metres : ℕ) → aroundHolds b metres place ≡ aroundHolds a metres place

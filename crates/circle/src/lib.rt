@@ -87,10 +87,7 @@ fn is_near(centre_lat: i32, centre_lon: i32, u: u64, lat: i32, lon: i32) -> bool
     requires { ⌜ u ≤ 2_000_000_000 ⌝ }
     ensures { λ r. ⌜ r ≡ withinSquares (shorterWay (natAbs (lon -ℤ «centre_lon»)) * cosineAt «centre_lat» / 1_000_000) (natAbs (lat -ℤ «centre_lat»)) u ⌝ }
 {
-    let x = scaled(
-        longitude_apart(lon, centre_lon),
-        cosine_at(centre_lat),
-    );
+    let x = scaled(longitude_apart(lon, centre_lon), cosine_at(centre_lat));
     let y = coordinates::distance(lat, centre_lat);
     within_squares(x, y, u)
 }

@@ -73,8 +73,8 @@ fn print_written(own: &[u8], answer: WriteSheet) {
 }
 
 // Whether the packet's circle holds a place.
-fn print_place(bytes: &[u8], place: Place) {
-    let answer = packet::packet_place(bytes, place);
+fn print_place(bytes: &[u8], lat: i32, lon: i32) {
+    let answer = packet::packet_place(bytes, Place { lat, lon });
     match answer {
         PacketPlace::Inside => print(b"inside\n"),
         PacketPlace::Outside => print(b"outside\n"),
@@ -114,52 +114,16 @@ fn print_table(table: Table) {
 // The packet's sentence, and its answers for a place near the sound packets' circles and for one out of range.
 fn print_packet(bytes: &[u8]) {
     print_sentence(bytes);
-    print_place(
-        bytes,
-        Place {
-            lat: 351000000,
-            lon: 1357000000,
-        },
-    );
-    print_place(
-        bytes,
-        Place {
-            lat: 900000001,
-            lon: 0,
-        },
-    );
+    print_place(bytes, 351000000, 1357000000);
+    print_place(bytes, 900000001, 0);
 }
 
 // The packet's answers for places just west of the date line, on it under both its longitudes, and at a pole.
 fn print_date_line(bytes: &[u8]) {
-    print_place(
-        bytes,
-        Place {
-            lat: -168000000,
-            lon: 1799900000,
-        },
-    );
-    print_place(
-        bytes,
-        Place {
-            lat: 0,
-            lon: 1800000000,
-        },
-    );
-    print_place(
-        bytes,
-        Place {
-            lat: 0,
-            lon: -1800000000,
-        },
-    );
-    print_place(
-        bytes,
-        Place {
-            lat: 900000000,
-            lon: 1800000000,
-        },
-    );
+    print_place(bytes, -168000000, 1799900000);
+    print_place(bytes, 0, 1800000000);
+    print_place(bytes, 0, -1800000000);
+    print_place(bytes, 900000000, 1800000000);
 }
 
 fn take_record(table: Table, kind: u8, clock: u64, verdict: bool, bytes: &[u8]) -> Table {
