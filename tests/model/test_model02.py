@@ -1305,7 +1305,7 @@ def base():
     mine = sys.modules.get("model")
     here = os.getcwd()
     try:
-        sys.modules["model"] = load(os.path.join(SHARED, "model", "model02_base.py"), "model02_base")
+        sys.modules["model"] = load(os.path.join(HERE, "model02_base.py"), "model02_base")
         tests = load(path_a, "base_tests")
         os.chdir(SHARED)
         for group in ("bench samples warn prolog comments tags structure texts shapes places sheets sentences "

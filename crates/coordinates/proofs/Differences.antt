@@ -44,6 +44,7 @@ module _ (a b d : ℤ) (fa : SFits w32 a) (fb : SFits w32 b) (e : d ≡ read w32
 pub within-is : (limit : ℕ) (z : ℤ) (r : Bool) → mag z < 2_147_483_648 → r ≡ within limit (read w32 z) → r ≡ within limit z
 within-is limit z r h e = e ∙ ap (within limit) (read-given w32 z h)
 
+-- what the test says of the magnitude
 pub within-abs : (limit : ℕ) (z : ℤ) → within limit z ≡ true → natAbs z ≤ limit
 within-abs limit (pos n) e = leb-true n limit (and-right (leZ (negℤ (pos limit)) (pos n)) (leb n limit) e)
 within-abs zero (negsuc n) e = absurd (true≢false (sym (and-left false true e)))

@@ -41,12 +41,8 @@ module _ (a b : ℤ) (fa : SFits w32 a) (fb : SFits w32 b) where
   wide-far = omega (arith, abs-sub-mag a b 2_147_483_648 (fa .sfits) (fb .sfits))
 
   -- the distance that a callee gave, of the integers themselves
-  module _ (r : ℕ) (e : r ≡ natAbs (read w32 a -ℤ read w32 b)) where
-    pub apart : r ≡ natAbs (a -ℤ b)
-    apart = e ∙ rw (toZ-ofZ fa, toZ-ofZ fb)
-
-    pub apart-le : r ≤ 4_294_967_295
-    apart-le = rw apart wide-far
+  pub apart : (r : ℕ) → r ≡ natAbs (read w32 a -ℤ read w32 b) → r ≡ natAbs (a -ℤ b)
+  apart r e = e ∙ rw (toZ-ofZ fa, toZ-ofZ fb)
 
   pub wide-sub-fits : SFits w64 (read w64 (read w32 a) -ℤ read w64 (read w32 b))
   wide-sub-fits = rw (wide-is a fa, wide-is b fb) (fits-abs (omega (arith, wide-far)))
