@@ -2,11 +2,12 @@
 """Writes crates/document_test/stdin and stdout: documents, and whether each is accepted or refused.
 
 The documents' sample alerts come from tests/vectors, with the answers stored there. The others are written here, one or more for each
-sentence of document 01's "The document" and "Refusal numbers". Each case gives the refusal's number; its place is marked in the document by
+sentence of document 01's "The document" and "Refusal numbers", and those that document 02's requests ask for. Each case gives the refusal's number; its place is marked in the document by
 MARK, which is taken out (no mark: the document's length). The answers were worked out from the paper; this script stops where tests/model/model02.py
 says otherwise.
 """
 import glob
+import itertools
 import os
 import sys
 
@@ -164,6 +165,26 @@ REFUSED = [
 ]
 
 
+# request [6], in each of the four time elements: the last days of months, of a leap year's February and year, and of the year 9999
+DAY_ENDS = ("2023-01-31", "2023-02-28", "2023-03-31", "2023-04-30", "2023-05-31", "2023-06-30", "2023-07-31", "2023-08-31", "2023-09-30", "2023-10-31",
+            "2023-11-30", "2023-12-31", "2024-02-28", "2024-02-29", "2024-12-31", "9999-12-31")
+OFFSETS = ("-07:00", "+00:00", "+14:00", "-00:00", "-14:00", "+05:30")
+SHORT = START + "<identifier>A</identifier><sender>b</sender>{}<status>Actual</status><msgType>Alert</msgType><scope>Public</scope>{}" + END
+TIMED = "<info><category>Met</category><event/><urgency>Past</urgency><severity>Minor</severity><certainty>Likely</certainty>{}</info>"
+
+
+def day_ends():
+    """A document for each time from hour 23 to 25: (document, answer)"""
+    for i, day in enumerate(DAY_ENDS):
+        for clock in itertools.product((23, 24, 25), (0, 1, 59), (0, 1, 59)):
+            time = "{}T{:02}:{:02}:{:02}{}".format(day, *clock, OFFSETS[i % len(OFFSETS)])
+            for element in ("sent", "effective", "onset", "expires"):
+                timed = f"<{element}>{time}</{element}>"
+                document = SHORT.format(timed, "") if element == "sent" else SHORT.format(SENT, TIMED.format(timed))
+                taken = clock[0] == 23 or clock == (24, 0, 0)
+                yield document.encode(), f"accepted {int(element != 'sent')}" if taken else f"refused 18 at {document.index(time)}"
+
+
 def vectors():
     """The documents' sample alerts: (document, answer)"""
     for path in sorted(glob.glob(os.path.join(HERE, "vectors", "*.xml"))):
@@ -192,7 +213,7 @@ def answer(document):
 def main():
     wrong = 0
     with open(os.path.join(FOLDER, "stdin"), "wb") as records, open(os.path.join(FOLDER, "stdout"), "w") as answers:
-        for document, expected in [*vectors(), *cases()]:
+        for document, expected in [*vectors(), *cases(), *day_ends()]:
             if answer(document) != expected:
                 wrong += 1
                 print("the model says", answer(document), "and not", expected, "of", document[:300], "...", document[-120:])

@@ -1,7 +1,7 @@
 #!/usr/bin/env python3
 """Writes crates/values_test/stdin and stdout: cases at every limit, and their answers.
 
-The answers come from tests/model/model02.py, which was written from document 01 alone, and from Python's own datetime and
+The answers come from tests/model/model02.py, which was written from documents 01 and 02 alone, and from Python's own datetime and
 decimal modules. Run it from the repository's root after a change to the cases; the gate compares the program with stdout.
 """
 import datetime
@@ -16,6 +16,12 @@ FOLDER = os.path.join(os.path.dirname(__file__), "..", "crates", "values_test")
 
 
 # ---- times
+
+# the last days of months, of a leap year's February and year, and of the last year; a leap year's 28 February; the first day
+DAY_ENDS = ("2023-01-31", "2023-02-28", "2023-03-31", "2023-04-30", "2023-05-31", "2023-06-30", "2023-07-31", "2023-08-31", "2023-09-30", "2023-10-31",
+            "2023-11-30", "2023-12-31", "2024-02-28", "2024-02-29", "2024-12-31", "1900-02-28", "2000-02-29", "0001-01-01", "9999-12-31")
+OFFSETS = ("+00:00", "-00:00", "-07:00", "+05:30", "+14:00", "-14:00", "+13:59", "-00:01")
+
 
 def times():
     good = "2002-05-24T16:49:00-07:00"
@@ -32,7 +38,16 @@ def times():
             yield f"2023-{month:02}-{day:02}T00:00:00+00:00"
     for hour in (0, 9, 12, 19, 20, 23, 24, 25, 30, 99):
         yield f"2023-06-15T{hour:02}:00:00+00:00"
-    yield "2023-06-15T24:00:00+00:00"
+    # hour 24 with zero minutes and seconds, and the times around it, at ends of months, of years, of the calendar
+    for i, day in enumerate(DAY_ENDS):
+        for hour in (23, 24, 25):
+            for minute in (0, 1, 59):
+                for second in (0, 1, 59):
+                    yield f"{day}T{hour}:{minute:02}:{second:02}{OFFSETS[i % len(OFFSETS)]}"
+    for offset in OFFSETS + ("+14:01", "-14:01", "+24:00", "-24:00", "+00:60"):
+        yield f"9999-12-31T24:00:00{offset}"
+    yield from ["0000-12-31T24:00:00+00:00", "2023-02-29T24:00:00+00:00", "2023-04-31T24:00:00+00:00", " 2024-02-28T24:00:00-07:00\n",
+                "2023-06-15T24:00:00Z", "2023-06-15T24:00+00:00"]
     for sixty in (0, 1, 59, 60, 61, 99):
         yield f"2023-06-15T00:{sixty:02}:00+00:00"
         yield f"2023-06-15T00:00:{sixty:02}+00:00"
@@ -64,12 +79,13 @@ def times():
 
 def time_answer(text):
     z = model.instant(text.encode("latin-1"))
-    # the calendar once more by Python's own, where its range allows
+    # the calendar once more by Python's own, where its range allows; it knows no hour 24, which is a day after hour 0
+    ends_day = "T24:00:00" in text
     try:
-        there = datetime.datetime.strptime(text.strip(" \t\r\n"), "%Y-%m-%dT%H:%M:%S%z")
+        there = datetime.datetime.strptime(text.strip(" \t\r\n").replace("T24:00:00", "T00:00:00"), "%Y-%m-%dT%H:%M:%S%z")
         epoch = datetime.datetime(1970, 1, 1, tzinfo=datetime.timezone.utc)
         if z is not None:
-            assert (there - epoch) // datetime.timedelta(seconds=1) == z, text
+            assert (there - epoch) // datetime.timedelta(seconds=1) + 86_400 * ends_day == z, text
     except (ValueError, OverflowError):
         pass
     return "fault" if z is None else str(z)

@@ -31,7 +31,7 @@ def moment(rng):
         return rng.choice(NOTED_DAYS) * DAY + rng.choice((0, 1, DAY - 1, rng.randrange(DAY)))
     if chance(rng, 50):
         return rng.randint(1_000_000_000, 2_000_000_000)
-    return rng.randint((FIRST_DAY + 2) * DAY, (LAST_DAY - 2) * DAY)
+    return rng.randint((FIRST_DAY + 2) * DAY // 60, (LAST_DAY - 2) * DAY // 60) * 60 + rng.choice((0, rng.randrange(60)))
 
 
 def zone(rng):
@@ -39,13 +39,21 @@ def zone(rng):
     return rng.choice((0, 0, 60, -420, 330, 840, -840, 839, -839, 1, -1, rng.randint(-840, 840)))
 
 
+def midnight_zone(instant):
+    """The offset, in minutes, by which a whole minute is midnight."""
+    offset = -(instant // 60) % 1440
+    return offset if offset <= 840 else offset - 1440
+
+
 def time_text(rng, instant):
-    """A text that names the instant, in some zone."""
-    offset = zone(rng)
+    """A text that names the instant, in some zone; midnight may be written as 24:00:00."""
+    offset = midnight_zone(instant) if instant % 60 == 0 and chance(rng, 25) else zone(rng)
     days, seconds = divmod(instant + 60 * offset, DAY)
     if not FIRST_DAY <= days <= LAST_DAY:
         offset = 0
         days, seconds = divmod(min(max(instant, FIRST_DAY * DAY), (LAST_DAY + 1) * DAY - 1), DAY)
+    if seconds == 0 and days > FIRST_DAY and chance(rng, 50):
+        days, seconds = days - 1, DAY
     day = date.fromordinal(days + EPOCH)
     sign = "-" if offset < 0 or (offset == 0 and chance(rng, 50)) else "+"
     text = (f"{day.year:04}-{day.month:02}-{day.day:02}T{seconds // 3600:02}:{seconds // 60 % 60:02}:{seconds % 60:02}"

@@ -63,7 +63,7 @@ class Rules:
 
     def __init__(self):
         self.r3 = True          # the shorter way round the date line
-        self.r6 = False         # hour 24
+        self.r6 = True          # hour 24
         self.r12 = False        # CAP 1.1
         self.r14 = False        # foreign elements
 

@@ -4,7 +4,7 @@ use mathlib.Core.List.{List}
 use Prim.Native.Nat.{ℕ, _≤_}
 use borrow.Author.Tests.{eqb-true, eqb-false}
 use lib.Dec.{eqb}
-use Rattle.text.specs.Answers.{Answer, gives, refuses, andThen, giving}
+use Rattle.text.specs.Answers.{Answer, gives, refuses, andThen, giving, IfGiven}
 use Rattle.text.specs.Logic.{by-test}
 use Rattle.sheet.specs.declared.Lasting.{Lasting}
 use Rattle.sheet.specs.declared.Parts.the-variants as parts
@@ -15,11 +15,6 @@ use Rattle.parts.specs.Elements.{alertOf, partOf, lookUp, textSpan}
 use Rattle.parts.specs.Sheets.{lastsOf, partFacts, sheetWith, partsOf, sheetOfPart, capSheet}
 use Rattle.parts.proofs.Lookups.{there-part, there-within, there-none}
 
--- what holds of the value, where an answer gives one
-abbrev pub Given : {A : Type 0} → (A → Type 0) → Answer A → Type 0
-Given P (gives x) = P x
-Given P (refuses n p) = Prim.Unit
-
 module _ (l : List ℕ) (n : ℕ) (P : Found → Type 0)
     (none : (es : List Element) → documentOf l ≡ gives es → n ≡ 0 → total es ≡ 0 → P (sheetWith l (textSpan (alertOf es)) parts.NoPart))
     (some : (es : List Element) → documentOf l ≡ gives es → 1 ≤ n → n ≤ total es
@@ -28,14 +23,14 @@ module _ (l : List ℕ) (n : ℕ) (P : Found → Type 0)
   module _ (es : List Element) (doc : documentOf l ≡ gives es) where
     lasting-holds :
         1 ≤ n → n ≤ total es → (r : Answer Lasting) → lastsOf l (textSpan (alertOf es)) (textSpan (partOf n es)) ≡ r
-        → Given P
+        → IfGiven P
         (giving (sheetWith l (textSpan (alertOf es))) (giving (λ d. parts.OnePart (partFacts l n (total es) (textSpan (partOf n es)) d)) r))
     lasting-holds g h (gives d) e = some es doc g h d e
     lasting-holds g h (refuses k p) e = tt
 
     part-holds :
         (r : Answer ℕ) → lookUp n (total es) ≡ r
-        → Given P
+        → IfGiven P
         (giving (sheetWith l (textSpan (alertOf es))) (andThen r (partsOf l (total es) (textSpan (alertOf es)) (textSpan (partOf n es)))))
     part-holds (gives k) h =
         by-test (eqb k 0)
@@ -45,12 +40,12 @@ module _ (l : List ℕ) (n : ℕ) (P : Found → Type 0)
         rw (z, ← there-part n (total es) k h) (lasting-holds (w .0) (w .1) (lastsOf l (textSpan (alertOf es)) (textSpan (partOf n es))) refl)
     part-holds (refuses k p) h = tt
 
-  pub drawn-holds : Given P (capSheet n l)
+  pub drawn-holds : IfGiven P (capSheet n l)
   unfolding capSheet
   drawn-holds = go (documentOf l) refl
     where
       go :
           (v : Answer (List Element)) → documentOf l ≡ v
-          → Given P (andThen v (λ es. sheetOfPart l n (total es) (textSpan (alertOf es)) (textSpan (partOf n es))))
+          → IfGiven P (andThen v (λ es. sheetOfPart l n (total es) (textSpan (alertOf es)) (textSpan (partOf n es))))
       go (gives es) doc = part-holds es doc (lookUp n (total es)) refl
       go (refuses k p) doc = tt

@@ -7,7 +7,7 @@ use native.Mathlib.Omega.{arith}
 use borrow.Author.Tests.{eqb-true, eqb-false}
 use lib.Dec.{eqb}
 use lib.IntN.{ℤ, natAbs, _-ℤ_}
-use Rattle.text.specs.Answers.{Answer, gives, refuses}
+use Rattle.text.specs.Answers.{Answer, gives, refuses, IfGiven}
 use Rattle.text.specs.Logic.{by-test, cond-cases, clash}
 use Rattle.time.specs.Time.{hasForm, stampTime, timeOf}
 use Rattle.codes.specs.Lists.{small}
@@ -36,7 +36,7 @@ use Rattle.parts.specs.Sheets.{startOf, between, lastsFrom, lastsOf, partFacts,
 use Rattle.drawn.proofs.Standing.{many, alert-once, part-once}
 use Rattle.drawn.proofs.Spans.{Text, every-both, said, said-is, said-ruled, said-none}
 use Rattle.drawn.proofs.Coded.{message-said, status-said, scope-said, urgency-said, severity-said, certainty-said}
-use Rattle.drawn.proofs.Drawn.{Given, drawn-holds}
+use Rattle.drawn.proofs.Drawn.{drawn-holds}
 
 -- ---- the statement
 
@@ -173,7 +173,7 @@ module _ (l : List ℕ) (es : List Element) (d : documentOf l ≡ gives es) wher
 
 pub sheet-says : (l : List ℕ) (n : ℕ) (x : Found) → capSheet n l ≡ gives x → (es : List Element) → documentOf l ≡ gives es → Says l n es x
 sheet-says l n x q =
-    subst (Given (λ (x : Found). (es : List Element) → documentOf l ≡ gives es → Says l n es x)) q
+    subst (IfGiven (λ (x : Found). (es : List Element) → documentOf l ≡ gives es → Says l n es x)) q
     (drawn-holds l n (λ (x : Found). (es : List Element) → documentOf l ≡ gives es → Says l n es x)
     (λ es d z t. other (sheetWith l (textSpan (alertOf es)) parts.NoPart) es d (alert-says l es d parts.NoPart, (z, t)))
     (λ es d g h x e.

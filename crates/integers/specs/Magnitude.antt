@@ -1,4 +1,4 @@
--- Magnitudes of integers: of a negation, a sum, a difference and a product; and the order of integers by sign and magnitude.
+-- Magnitudes of integers: of a negation, a difference and a product; and the order of integers by sign and magnitude.
 use mathlib.Core.Path.{_≡_, refl, sym, ap, _∙_}
 use mathlib.Core.Bool.{Bool, true, false, cond, not, Bool·beq, _&&_, _||_, true≢false}
 use Prim.Native.Nat.{ℕ, zero, suc, zero-le, _+_, _-_, _*_, _≤_, _<_}
@@ -6,7 +6,7 @@ use native.Mathlib.Nat.{zero-add}
 use native.Mathlib.Omega.{arith}
 use borrow.Author.Tests.{ltb-true, ltb-false, lt-ltb, le-ltb}
 use lib.Dec.{ltb, leb·suc-suc}
-use lib.IntN.{ℤ, pos, negsuc, negℤ, natAbs, subℕ, _+ℤ_, _-ℤ_, _*ℤ_, negℤ-negℤ, negℤ-+ℤ, +ℤ-comm}
+use lib.IntN.{ℤ, pos, negsuc, negℤ, natAbs, subℕ, _-ℤ_, _*ℤ_, negℤ-negℤ, negℤ-+ℤ, +ℤ-comm, +ℤ-idr}
 use lib.Signed.{mag, ltZ}
 
 pub abs-neg : (z : ℤ) → natAbs (negℤ z) ≡ natAbs z
@@ -14,46 +14,75 @@ abs-neg (pos zero) = refl
 abs-neg (pos (suc n)) = refl
 abs-neg (negsuc n) = refl
 
--- a difference of naturals is at most k where neither exceeds the other by more
-sub-near : (a b k : ℕ) → a ≤ b + k → b ≤ a + k → natAbs (subℕ a b) ≤ k
-sub-near a b k h g = go (ltb a b) refl
-  where
-    go : (t : Bool) → ltb a b ≡ t → natAbs (cond t (negsuc (b - suc a)) (pos (a - b))) ≤ k
-    go true e = omega (arith, ltb-true a b e)
-    go false e = omega (arith, ltb-false a b e)
-
-pub abs-near : (a b k : ℕ) → a ≤ b + k → b ≤ a + k → natAbs (pos a -ℤ pos b) ≤ k
-abs-near a zero k h g = omega arith
-abs-near a (suc b) k h g = sub-near a (suc b) k h g
-
-pub abs-add : (x y : ℤ) → natAbs (x +ℤ y) ≤ natAbs x + natAbs y
-abs-add (pos a) (pos b) = omega arith
-abs-add (pos a) (negsuc b) = sub-near a (suc b) (a + suc b) (omega arith) (omega arith)
-abs-add (negsuc a) (pos b) = sub-near b (suc a) (suc a + b) (omega arith) (omega arith)
-abs-add (negsuc a) (negsuc b) = omega arith
-
-pub abs-sub : (x y : ℤ) → natAbs (x -ℤ y) ≤ natAbs x + natAbs y
-abs-sub x y = omega (arith, abs-add x (negℤ y), abs-neg y)
-
 pub abs-swap : (x y : ℤ) → natAbs (x -ℤ y) ≡ natAbs (y -ℤ x)
 abs-swap x y = sym (abs-neg (x -ℤ y)) ∙ ap natAbs (negℤ-+ℤ x (negℤ y) ∙ +ℤ-comm (negℤ x) (negℤ (negℤ y))) ∙ rw (negℤ-negℤ y)
 
 pub abs-sub-zero : (z : ℤ) → natAbs (z -ℤ pos 0) ≡ natAbs z
-abs-sub-zero (pos n) = omega arith
-abs-sub-zero (negsuc n) = rw (lt-ltb 0 (suc n) (omega arith)) (omega arith)
+abs-sub-zero z = ap natAbs (+ℤ-idr z)
 
 pub mag-abs : (z : ℤ) (n : ℕ) → natAbs z < n → mag z < n
 mag-abs (pos k) n h = omega arith
 mag-abs (negsuc k) n h = omega arith
 
+-- ---- the positive and the negative part: how far an integer lies above 0, and how far below
+
+abbrev pub positivePart : ℤ → ℕ
+positivePart (pos n) = n
+positivePart (negsuc n) = 0
+
+abbrev pub negativePart : ℤ → ℕ
+negativePart (pos n) = 0
+negativePart (negsuc n) = suc n
+
+pub abs-parts : (z : ℤ) → natAbs z ≡ positivePart z + negativePart z
+abs-parts (pos n) = omega arith
+abs-parts (negsuc n) = omega arith
+
+-- an integer that lies at most k above 0 or below
+pub abs-le : (z : ℤ) (k : ℕ) → (positivePart z ≤ k) × (negativePart z ≤ k) → natAbs z ≤ k
+abs-le (pos n) k h = h .0
+abs-le (negsuc n) k h = h .1
+
+subℕ-parts : (a b : ℕ) → (positivePart (subℕ a b) ≡ a - b) × (negativePart (subℕ a b) ≡ b - a)
+subℕ-parts a b = go (ltb a b) refl
+  where
+    go :
+        (t : Bool) → ltb a b ≡ t
+        → (positivePart (cond t (negsuc (b - suc a)) (pos (a - b))) ≡ a - b) × (negativePart (cond t (negsuc (b - suc a)) (pos (a - b))) ≡ b - a)
+    go true e = let h = ltb-true a b e in (omega arith, omega arith)
+    go false e = let h = ltb-false a b e in (omega arith, omega arith)
+
+-- the parts of a difference, of naturals and of integers
+pub parts-pos : (a b : ℕ) → (positivePart (pos a -ℤ pos b) ≡ a - b) × (negativePart (pos a -ℤ pos b) ≡ b - a)
+parts-pos a zero = (omega arith, omega arith)
+parts-pos a (suc b) = subℕ-parts a (suc b)
+
+pub parts-sub :
+    (x y : ℤ) → (positivePart (x -ℤ y) ≤ positivePart x + negativePart y) × (negativePart (x -ℤ y) ≤ negativePart x + positivePart y)
+parts-sub (pos a) (pos b) = let p = parts-pos a b in (omega arith, omega arith)
+parts-sub (pos a) (negsuc b) = (omega arith, omega arith)
+parts-sub (negsuc a) (pos zero) = let p = subℕ-parts 0 (suc a) in (omega arith, omega arith)
+parts-sub (negsuc a) (pos (suc b)) = (omega arith, omega arith)
+parts-sub (negsuc a) (negsuc b) = let p = subℕ-parts (suc b) (suc a) in (omega arith, omega arith)
+
+pub abs-sub : (x y : ℤ) → natAbs (x -ℤ y) ≤ natAbs x + natAbs y
+abs-sub x y =
+    let p = parts-sub x y in
+    let a = abs-parts x in
+    let b = abs-parts y in
+    abs-le (x -ℤ y) (natAbs x + natAbs y) (omega arith, omega arith)
+
+mag-parts : (z : ℤ) → (positivePart z ≤ mag z) × (negativePart z ≤ suc (mag z))
+mag-parts (pos n) = (omega arith, omega arith)
+mag-parts (negsuc n) = (omega arith, omega arith)
+
 -- the difference of two integers in the range of a two's complement number
 pub abs-sub-mag : (x y : ℤ) (n : ℕ) → mag x < n → mag y < n → natAbs (x -ℤ y) < n + n
-abs-sub-mag (pos a) (pos zero) n h g = omega arith
-abs-sub-mag (pos a) (pos (suc b)) n h g = omega (arith, sub-near a (suc b) n (omega arith) (omega arith))
-abs-sub-mag (pos a) (negsuc b) n h g = omega arith
-abs-sub-mag (negsuc a) (pos zero) n h g = omega (arith, sub-near 0 (suc a) n (omega arith) (omega arith))
-abs-sub-mag (negsuc a) (pos (suc b)) n h g = omega arith
-abs-sub-mag (negsuc a) (negsuc b) n h g = omega (arith, sub-near (suc b) (suc a) n (omega arith) (omega arith))
+abs-sub-mag x y n h g =
+    let p = parts-sub x y in
+    let a = mag-parts x in
+    let b = mag-parts y in
+    omega (arith, abs-le (x -ℤ y) (n + n - 1) (omega arith, omega arith))
 
 -- ---- the sign
 

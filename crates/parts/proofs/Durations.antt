@@ -1,29 +1,28 @@
--- How long it is between two near instants, as the code takes it; times that texts say are near, and so is the start of a part.
+-- How long it is between two instants in range, as the code takes it; the start of a part is in range.
 use mathlib.Core.Path.{_≡_, refl, ap, subst}
-use mathlib.Core.List.{List}
 use mathlib.Core.Bool.{Bool, true, false, _&&_}
-use Prim.Native.Nat.{ℕ, _≤_, _<_}
+use mathlib.Core.List.{List}
+use Prim.Native.Nat.{ℕ, _<_}
 use native.Mathlib.Omega.{arith}
 use borrow.Author.Tests.{leb-true}
 use lib.Dec.{T, leb}
 use lib.IntN.{ℤ, pos, negsuc, natAbs, _-ℤ_}
 use lib.Signed.{mag, nonNeg, leZ}
 use mir.Syntax.{w32, w64}
-use mir.Val.{Fits, SFits}
-use Rattle.text.specs.Answers.{Answer, gives, refuses}
+use mir.Val.{Fits, SFits, ofZ}
+use Rattle.text.specs.Answers.{Answer, gives, refuses, IfGiven}
 use Rattle.text.specs.Logic.{and-right, clash}
-use Rattle.integers.specs.Magnitude.{abs-sub}
 use Rattle.integers.specs.Bits.{read, read-given, read-small}
-use Rattle.integers.specs.Reads.{reads-abs, sub-fits, sub-reads}
+use Rattle.integers.specs.Reads.{Reads, reads-abs, sub-fits, sub-reads}
 use Rattle.time.specs.declared.Time.{Time}
 use Rattle.time.specs.declared.Time.the-variants.{Instant}
 use Rattle.time.specs.Time.{timeOf, timeAnswer}
-use Rattle.time.proofs.Range.{range}
+use Rattle.time.specs.Range.{InstantRange}
+use Rattle.time.proofs.Range.{range-abs, range-apart, time-range}
 use Rattle.sheet.specs.declared.Lasting.the-variants as lasting
 use Rattle.parts.specs.Sheets.{between, startOf, lastsFrom}
-use Rattle.parts.specs.Gathering.{farthest, isNear}
 
--- ---- the difference of two near instants
+-- ---- the difference of two instants in range
 
 -- the code's test of a difference
 abbrev tested : ℤ → Bool
@@ -37,15 +36,20 @@ lasting-fits : (z : ℤ) → tested z ≡ true → T (nonNeg z) × Fits w32 (nat
 lasting-fits (pos n) e = (tt, record { fits = omega (arith, leb-true n 31_536_000 (and-right (leb 1 n) (leb n 31_536_000) e)) })
 lasting-fits (negsuc n) e = clash (cc)
 
-module _ (start end : ℤ) (near : (natAbs start ≤ farthest) × (natAbs end ≤ farthest)) where
+module _ (start end : ℤ) (range : InstantRange start × InstantRange end) where
+  start-reads : Reads (ofZ w64 start) start
+  start-reads = reads-abs start (omega (arith, range-abs start (range .0)))
+
+  end-reads : Reads (ofZ w64 end) end
+  end-reads = reads-abs end (omega (arith, range-abs end (range .1)))
+
   -- it fits
   pub far-fits : SFits w64 (read w64 end -ℤ read w64 start)
-  far-fits = sub-fits (reads-abs end (omega (arith, near))) (reads-abs start (omega (arith, near))) (omega (arith, near, abs-sub end start))
+  far-fits = sub-fits end-reads start-reads (omega (arith, range-apart end start (range .1) (range .0)))
 
   -- and is that of the instants
   far-is : read w64 (read w64 end -ℤ read w64 start) ≡ end -ℤ start
-  far-is =
-      sub-reads (reads-abs end (omega (arith, near))) (reads-abs start (omega (arith, near))) (omega (arith, near, abs-sub end start)) .is
+  far-is = sub-reads end-reads start-reads (omega (arith, range-apart end start (range .1) (range .0))) .is
 
   module _ (e : tested (read w64 (read w64 end -ℤ read w64 start)) ≡ true) where
     -- a lasting time fits 32 bits
@@ -66,36 +70,27 @@ pub start-given :
     → gives (read w64 i) ≡ startOf (timeAnswer effective) (timeAnswer sent)
 start-given effective sent i e h = rw e (ap gives (read-given w64 i h))
 
-module _ (t : Time) (i : ℤ) (is : t ≡ Instant i) (near : isNear (timeAnswer t)) where
-  near-instant : natAbs i ≤ farthest
-  near-instant = subst (λ (r : Time). isNear (timeAnswer r)) is near
+module _ (t : Time) (i : ℤ) (is : t ≡ Instant i) (range : IfGiven InstantRange (timeAnswer t)) where
+  instant-range : InstantRange i
+  instant-range = subst (λ (r : Time). IfGiven InstantRange (timeAnswer r)) is range
 
   instant-read : read w64 i ≡ i
-  instant-read = read-small i (omega (arith, near-instant))
+  instant-read = read-small i (omega (arith, range-abs i instant-range))
 
-  pub near-read : natAbs (read w64 i) ≤ farthest
-  near-read = rw instant-read near-instant
+  pub range-read : InstantRange (read w64 i)
+  range-read = rw instant-read instant-range
 
 pub lasts-given :
-    (start expires : Time) (i e : ℤ) → start ≡ Instant i → expires ≡ Instant e → isNear (timeAnswer start) × isNear (timeAnswer expires)
+    (start expires : Time) (i e : ℤ) → start ≡ Instant i → expires ≡ Instant e
+    → IfGiven InstantRange (timeAnswer start) × IfGiven InstantRange (timeAnswer expires)
     → lastsFrom (gives (read w64 i)) (gives (read w64 e)) ≡ lastsFrom (timeAnswer start) (timeAnswer expires)
-lasts-given start expires i e p q near =
-    rw (instant-read start i p (near .0), instant-read expires e q (near .1), p, q) refl
-
--- ---- near times
-
--- a time that a text says
-pub near-time : (t : List ℕ) → isNear (timeOf t)
-near-time t = go (timeOf t) refl
-  where
-    go : (r : Answer ℤ) → timeOf t ≡ r → isNear r
-    go (gives i) q = range t i q
-    go (refuses n p) q = tt
+lasts-given start expires i e p q range =
+    rw (instant-read start i p (range .0), instant-read expires e q (range .1), p, q) refl
 
 -- the start of a part, by its two texts
-pub near-from : (effective sent : List ℕ) → isNear (startOf (timeOf effective) (timeOf sent))
-near-from effective sent = go (timeOf effective) (near-time effective)
+pub start-range : (effective sent : List ℕ) → IfGiven InstantRange (startOf (timeOf effective) (timeOf sent))
+start-range effective sent = go (timeOf effective) (time-range effective)
   where
-    go : (r : Answer ℤ) → isNear r → isNear (startOf r (timeOf sent))
+    go : (r : Answer ℤ) → IfGiven InstantRange r → IfGiven InstantRange (startOf r (timeOf sent))
     go (gives i) h = h
-    go (refuses n p) h = near-time sent
+    go (refuses n p) h = time-range sent

@@ -2,11 +2,9 @@
 -- proofs/ show that they are those of the definitions.
 use mathlib.Core.Bool.{false, cond, _&&_, _||_}
 use mathlib.Core.List.{List}
-use Prim.Native.Nat.{ℕ, _-_, _≤_}
-use lib.IntN.{ℤ, natAbs}
+use Prim.Native.Nat.{ℕ, _-_}
 use lib.Dec.{eqb, leb, ltb}
 use lib.ListN.{getD, set, replicate}
-use Rattle.text.specs.Answers.{Answer, gives, refuses}
 use Rattle.sheet.specs.declared.Span.{Span}
 use Rattle.coordinates.specs.declared.Place.{Place}
 use Rattle.schema.specs.Classes as class
@@ -80,13 +78,3 @@ noShapes = record { any = false; inside = false }
 
 unfoldable pub viewOf : ℕ → Place → List ℕ → View
 viewOf n p l = answer view.Accepted view.Refused (seen n p) 0 noShapes (documentOf l)
-
--- ---- times
-
--- a time that a text says lies this near to 1970, in seconds (time/proofs/Range), so that differences of times fit
-abbrev pub farthest : ℕ
-farthest = 300_000_000_000
-
-abbrev pub isNear : Answer ℤ → Type 0
-isNear (gives i) = natAbs i ≤ farthest
-isNear (refuses n p) = Unit {0}

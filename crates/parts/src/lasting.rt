@@ -3,12 +3,10 @@ use crate::Lasts;
 use sheet::Lasting;
 use time::Time;
 ghost use mathlib.Core.Path.{_≡_};
-ghost use Prim.Native.Nat.{_≤_};
-ghost use lib.IntN.{natAbs};
-ghost use Rattle.text.specs.Answers.{gives};
+ghost use Rattle.text.specs.Answers.{gives, IfGiven};
 ghost use Rattle.time.specs.Time.{timeAnswer};
+ghost use Rattle.time.specs.Range.{InstantRange};
 ghost use Rattle.parts.specs.Sheets.{startOf, lastsFrom, lastsAnswer};
-ghost use Rattle.parts.specs.Gathering.{farthest, isNear};
 
 // The longest lasting time, in seconds.
 const LONGEST: i64 = 31_536_000;
@@ -25,7 +23,7 @@ pub fn start_of(effective: Time, sent: Time) -> Time
 
 // How long it is from one instant to another.
 fn lasts_between(start: i64, end: i64) -> Lasts
-    requires { ⌜ (natAbs start ≤ farthest) × (natAbs end ≤ farthest) ⌝ }
+    requires { ⌜ InstantRange start × InstantRange end ⌝ }
     ensures { λ r. ⌜ lastsAnswer r ≡ lastsFrom (gives start) (gives end) ⌝ }
 {
     let seconds = end - start;
@@ -37,7 +35,7 @@ fn lasts_between(start: i64, end: i64) -> Lasts
 
 // How long a part lasts that starts at one time and expires at another.
 pub fn lasts_from(start: Time, expires: Time) -> Lasts
-    requires { ⌜ isNear (timeAnswer start) × isNear (timeAnswer expires) ⌝ }
+    requires { ⌜ IfGiven InstantRange (timeAnswer start) × IfGiven InstantRange (timeAnswer expires) ⌝ }
     ensures { λ r. ⌜ lastsAnswer r ≡ lastsFrom (timeAnswer start) (timeAnswer expires) ⌝ }
 {
     match expires {

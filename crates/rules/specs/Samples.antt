@@ -41,6 +41,19 @@ pub sample-times :
 unfolding numberFrom daysOfYears daysOfMonths hasForm stampOf isStamp localSeconds epoch offset instantOf stampTime timeOf timeRule textRule
 sample-times = (refl, refl)
 
+-- hour 24 in each of the four time elements, and a second later (request [6])
+pub sample-day-end :
+    (textRule class.sent (ascii "2002-05-24T24:00:00-07:00") ≡ 0)
+    × (textRule class.effective (ascii "2002-05-24T24:00:00-07:00") ≡ 0)
+    × (textRule class.onset (ascii "2002-05-24T24:00:00-07:00") ≡ 0)
+    × (textRule class.expires (ascii "2002-05-24T24:00:00-07:00") ≡ 0)
+    × (textRule class.sent (ascii "2002-05-24T24:00:01-07:00") ≡ 18)
+    × (textRule class.effective (ascii "2002-05-24T24:00:01-07:00") ≡ 18)
+    × (textRule class.onset (ascii "2002-05-24T24:00:01-07:00") ≡ 18)
+    × (textRule class.expires (ascii "2002-05-24T24:00:01-07:00") ≡ 18)
+unfolding numberFrom daysOfYears daysOfMonths hasForm stampOf isStamp localSeconds epoch offset instantOf stampTime timeOf timeRule textRule
+sample-day-end = (refl, refl, refl, refl, refl, refl, refl, refl)
+
 -- a closed triangle, and a circle without a radius
 pub sample-areas :
     (textRule class.polygon (ascii "0,0 0,1 1,0 0,0") ≡ 0)

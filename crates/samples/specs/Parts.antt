@@ -136,6 +136,11 @@ pub record Samples : Type 0 where
   pub sample-year :
       (capSheet 1 (until (ascii "2027-03-01T10:00:00-00:00")) ≡ gives (kiln 31_536_000))
       × (capSheet 1 (until (ascii "2027-03-01T10:00:01-00:00")) ≡ refuses 7 0)
+  -- a part that ends at T24:00:00, and one a second later (request [6])
+  pub sample-day-end :
+      (saidOf (until (ascii "2026-03-01T24:00:00-00:00")) 1
+      ≡ gives (ascii "cap alert, actual, public, from kiln.example, name A17, part one of one, immediate, extreme, observed, lasts fourteen hours.\n"))
+      × (capSheet 1 (until (ascii "2026-03-01T24:00:01-00:00")) ≡ refuses 18 361)
   -- the second: no parts
   pub sample-cancel : saidOf cancel 0 ≡ gives (ascii "cap cancel, actual, public, from kiln.example, name A18, no parts.\n")
   -- the parts of two, the second without a time
@@ -175,6 +180,7 @@ unfolding capSheet sheetIn lastsOf lookUp within fold starts documentOf firstSte
 samples = record {
   sample-alert = (refl, refl, refl);
   sample-year = (refl, refl);
+  sample-day-end = (refl, refl);
   sample-cancel = refl;
   sample-double = (refl, refl);
   sample-refusals = (refl, refl, refl, refl, refl, refl);

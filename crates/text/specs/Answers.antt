@@ -26,3 +26,8 @@ isGiven (refuses n p) = false
 abbrev pub answerNumber : {A : Type 0} → Answer A → ℕ
 answerNumber (gives x) = 0
 answerNumber (refuses n p) = n
+
+-- what holds of the value, if one is given
+abbrev pub IfGiven : {A : Type 0} → (A → Type 0) → Answer A → Type 0
+IfGiven P (gives x) = P x
+IfGiven P (refuses n p) = Prim.Unit

@@ -4,15 +4,23 @@ use mathlib.Core.Bool.{Bool, true, false, cond, not, _&&_, _||_, false≢true}
 use mathlib.Core.List.{List}
 use mathlib.Core.Logic.{⊎-elim}
 use Prim.Native.Nat.{ℕ, zero, suc, _+_, _-_, _*_, _/_, _%_, _≤_, _<_}
-use native.Mathlib.Nat.{div-le-self, div-add-mod, div-self, div-eq-of-lt, mod-self, mod-lt, mod-eq-of-lt, mul-add-div, mul-add-mod-self-left, eq-or-lt-of-le}
+use native.Mathlib.Nat.{div-le-self, div-add-mod, div-self, div-eq-of-lt, mod-self, mod-lt, mod-eq-of-lt, mul-add-div, mul-add-mod-self-left, eq-or-lt-of-le, le-refl, le-trans, le-of-suc-le-suc}
+use native.Mathlib.Numerals.{unary-clauses}
 use native.Mathlib.Omega.{arith}
 use borrow.Author.Tests.{eqb-true, eq-eqb, ne-eqb}
 use lib.Dec.{eqb, ltb}
 use lib.ListN.{getD}
 use mir.Val.{boolByte}
 use Rattle.text.specs.Logic.{by-test, and-left, and-right, below-at}
-use Rattle.time.specs.Calendar.{isLeap, yearDays, monthDays, daysOfYears, daysOfMonths}
+use Rattle.time.specs.Calendar.{isLeap, yearDays, monthDays, daysOfYears, daysOfMonths, daysBeforeYear, daysBeforeMonth}
 use Rattle.time.specs.Tables.{hasMonth, MonthTable}
+
+-- what grows at each step grows over many
+rising : (f : ℕ → ℕ) → ((n : ℕ) → f n ≤ f (suc n)) → (n k : ℕ) → n ≤ k → f n ≤ f k
+rising f up n zero h = let e : n ≡ 0 = omega arith in rw e (le-refl (f 0))
+rising f up n (suc k) h =
+    ⊎-elim (λ (e : n ≡ suc k). rw e (le-refl (f (suc k)))) (λ (l : n < suc k). le-trans (rising f up n k (le-of-suc-le-suc l)) (up k))
+    (eq-or-lt-of-le h)
 
 -- ---- years
 
@@ -56,12 +64,19 @@ years-sum (suc k) =
     (sums (daysOfYears k) (yearDays (suc k)) k (k / 4) (k / 100) (k / 400) _ _ _ (years-sum k)
     (leap-sum (eqb (suc k % 4) 0) (eqb (suc k % 100) 0) (eqb (suc k % 400) 0) (century (suc k)) (fourth (suc k))))
 
+-- the days before a year and its own
+pub year-added : (y : ℕ) → 1 ≤ y → daysBeforeYear y + yearDays y ≡ daysOfYears y
+unfolding daysOfYears
+year-added zero h = absurd (omega arith)
+year-added (suc y) h = simp unary-clauses refl
+
+pub years-up : (n k : ℕ) → n ≤ k → daysOfYears n ≤ daysOfYears k
+unfolding daysOfYears
+years-up = rising daysOfYears (λ n. omega arith)
+
 -- the days of the years 1 to k
 pub years-closed : (k : ℕ) → 365 * k + k / 4 - k / 100 + k / 400 ≡ daysOfYears k
 years-closed k = omega (arith, years-sum k, div-le-self k 100)
-
-pub years-le : (k : ℕ) → daysOfYears k ≤ 366 * k
-years-le k = omega (arith, years-sum k)
 
 -- ---- months
 
@@ -79,6 +94,21 @@ pub months-le : (y n : ℕ) → daysOfMonths y n ≤ 31 * n
 unfolding daysOfMonths
 months-le y zero = omega arith
 months-le y (suc n) = omega (arith, months-le y n, month-le y (suc n))
+
+-- the days before a month and its own
+pub month-added : (y m : ℕ) → 1 ≤ m → daysBeforeMonth y m + monthDays y m ≡ daysOfMonths y m
+unfolding daysOfMonths
+month-added y zero h = absurd (omega arith)
+month-added y (suc m) h = simp unary-clauses refl
+
+pub months-up : (y n k : ℕ) → n ≤ k → daysOfMonths y n ≤ daysOfMonths y k
+unfolding daysOfMonths
+months-up y = rising (daysOfMonths y) (λ n. omega arith)
+
+-- the months of a year are all its days
+pub year-whole : (y : ℕ) → daysOfMonths y 12 ≡ yearDays y
+unfolding daysOfMonths
+year-whole y = by-test (isLeap y) (λ e. rw e) (λ e. rw e)
 
 -- two leap years have the same months, and so have two common years
 same-kind : (y z n : ℕ) → isLeap y ≡ isLeap z → daysOfMonths y n ≡ daysOfMonths z n

@@ -3,4 +3,5 @@ mod Days
 mod Forms
 mod Bounds
 mod Seconds
+mod DayEnd
 pub mod Answer

@@ -1,47 +1,66 @@
--- How far instants lie from 1970, so that callers can take the difference of two.
-use mathlib.Core.Path.{_≡_}
+-- The range of instants: both ends are named, every text's instant lies between them, and so two instants lie no farther apart than they do.
+use mathlib.Core.Path.{refl, subst}
 use mathlib.Core.Bool.{_&&_}
 use mathlib.Core.List.{List}
 use Prim.Native.Nat.{ℕ, _≤_}
 use native.Mathlib.Omega.{arith}
-use lib.IntN.{ℤ, natAbs, _-ℤ_}
+use lib.Dec.{leb→le, le→leb}
+use lib.IntN.{ℤ, pos, negsuc, natAbs, _-ℤ_}
+use lib.Signed.{leZ-yes}
 use lib.ListN.{length, take, drop}
-use Rattle.text.specs.Answers.{Answer, gives, refuses}
-use Rattle.text.specs.Logic.{cond-cases, and-right, clash}
-use Rattle.text.specs.Bytes.{dropSpace, allSpace}
-use Rattle.time.specs.Time.{form, hasForm, stampOf, isStamp, instantOf, stampTime, timeOf}
-use Rattle.integers.specs.Magnitude.{abs-sub}
+use Rattle.text.specs.Answers.{gives, refuses, IfGiven}
+use Rattle.text.specs.Logic.{cond-cases, and-right}
+use Rattle.text.specs.Bytes.{dropSpace, allSpace, numberFrom}
+use Rattle.time.specs.Calendar.{daysOfYears, daysOfMonths}
+use Rattle.time.specs.Time.{form, hasForm, stampOf, isStamp, localSeconds, epoch, offset, instantOf, stampTime, timeOf}
+use Rattle.time.specs.Range.{InstantRange, ExactRange, widest}
+use Rattle.integers.specs.Magnitude.{positivePart, negativePart, abs-le, parts-sub}
 use Rattle.time.proofs.Bounds.{stamped}
-use Rattle.time.proofs.Seconds.{instant-abs}
+use Rattle.time.proofs.Seconds.{instant-parts}
 
--- an answer that is an instant is a near one
-abbrev Near : Answer ℤ → Type 0
-Near r = (z : ℤ) → r ≡ gives z → natAbs z ≤ 300_000_000_000
+-- ---- the range, by how far an instant lies above 1970 and below
 
-refused-near : Near (refuses 18 0)
-refused-near z e = clash (cc)
+parts-range : (z : ℤ) → (positivePart z ≤ 253_402_351_200) × (negativePart z ≤ 62_135_647_200) → InstantRange z
+parts-range (pos n) h = record { from = leZ-yes tt; to = leZ-yes (le→leb n 253_402_351_200 (h .0)) }
+parts-range (negsuc n) h = record { from = leZ-yes (le→leb n 62_135_647_199 (omega arith)); to = leZ-yes tt }
 
-instant-near : (w : ℤ) → natAbs w ≤ 300_000_000_000 → Near (gives w)
-instant-near w h z e = let c : w ≡ z = cc in rw c at h
+range-parts : (z : ℤ) → InstantRange z → (positivePart z ≤ 253_402_351_200) × (negativePart z ≤ 62_135_647_200)
+range-parts (pos n) r = (leb→le n 253_402_351_200 (r .to .le), omega arith)
+range-parts (negsuc n) r = (omega arith, omega (arith, leb→le n 62_135_647_199 (r .from .le)))
 
-stamp-near : (l : List ℕ) → Near (stampTime l)
+pub range-abs : (z : ℤ) → InstantRange z → natAbs z ≤ 253_402_351_200
+range-abs z r = let p = range-parts z r in abs-le z 253_402_351_200 (p .0, omega arith)
+
+pub range-apart : (z w : ℤ) → InstantRange z → InstantRange w → natAbs (z -ℤ w) ≤ widest
+range-apart z w r s =
+    let p = range-parts z r in
+    let q = range-parts w s in
+    let d = parts-sub z w in
+    abs-le (z -ℤ w) widest (omega arith, omega arith)
+
+-- ---- texts
+
+stamp-range : (l : List ℕ) → IfGiven InstantRange (stampTime l)
 unfolding stampTime
-stamp-near l =
-    cond-cases Near (hasForm form l && isStamp (stampOf l)) (gives (instantOf (stampOf l))) (refuses 18 0)
-    (λ t. instant-near (instantOf (stampOf l)) (instant-abs (stampOf l) (stamped (stampOf l) (and-right (hasForm form l) (isStamp (stampOf l)) t))))
-    (λ t. refused-near)
+stamp-range l =
+    cond-cases (IfGiven InstantRange) (hasForm form l && isStamp (stampOf l)) (gives (instantOf (stampOf l))) (refuses 18 0)
+    (λ t. parts-range _ (instant-parts (stampOf l) (stamped (stampOf l) (and-right (hasForm form l) (isStamp (stampOf l)) t))))
+    (λ t. tt)
 
-time-near : (l : List ℕ) → Near (timeOf l)
+pub time-range : (l : List ℕ) → IfGiven InstantRange (timeOf l)
 unfolding timeOf
-time-near l =
-    cond-cases Near (allSpace (drop (length form) (dropSpace l))) (stampTime (take (length form) (dropSpace l))) (refuses 18 0)
-    (λ t. stamp-near (take (length form) (dropSpace l)))
-    (λ t. refused-near)
+time-range l =
+    cond-cases (IfGiven InstantRange) (allSpace (drop (length form) (dropSpace l))) (stampTime (take (length form) (dropSpace l))) (refuses 18 0)
+    (λ t. stamp-range (take (length form) (dropSpace l)))
+    (λ t. tt)
 
--- The farthest instants are -62,135,647,200 and 253,402,351,199; the bound leaves room.
-pub range : (l : List ℕ) (z : ℤ) → timeOf l ≡ gives z → natAbs z ≤ 300_000_000_000
-range l z e = time-near l z e
-
--- the difference of two instants
-pub apart : (l k : List ℕ) (z w : ℤ) → timeOf l ≡ gives z → timeOf k ≡ gives w → natAbs (z -ℤ w) ≤ 600_000_000_000
-apart l k z w e f = omega (arith, range l z e, range k w f, abs-sub z w)
+pub exact-range : ExactRange
+unfolding numberFrom daysOfYears daysOfMonths hasForm stampOf isStamp localSeconds epoch offset instantOf stampTime timeOf
+exact-range = record {
+  within = λ l z e. subst (IfGiven InstantRange) e (time-range l);
+  first = refl;
+  last = refl;
+  apart = range-apart;
+  ends-apart = refl;
+  widest-below = omega arith;
+}

@@ -11,11 +11,11 @@ use Rattle.text.specs.Logic.{cond-cases}
 use Rattle.time.specs.declared.Stamp.{Stamp}
 use Rattle.time.specs.Time.{localSeconds, epoch, offset, instantOf}
 use Rattle.time.specs.Limits.{Stamped}
-use Rattle.integers.specs.Magnitude.{abs-neg, abs-near, abs-sub}
+use Rattle.integers.specs.Magnitude.{abs-neg, positivePart, negativePart, abs-parts, abs-le, parts-pos, parts-sub}
 use Rattle.integers.specs.Bits.{fits-abs}
 use Rattle.integers.specs.Reads.{Reads, reads-pos, reads-back, neg-fits, neg-reads, sub-fits, sub-reads}
 use Rattle.time.proofs.Days.{years-closed}
-use Rattle.time.proofs.Bounds.{days-le}
+use Rattle.time.proofs.Bounds.{days-below}
 
 pub epoch-is : 62_135_596_800 ≡ epoch
 unfolding epoch
@@ -25,9 +25,9 @@ epoch-reads : Reads 62_135_596_800 (pos epoch)
 epoch-reads = record { is = ap pos epoch-is }
 
 module _ (t : Stamp) (b : Stamped t) where
-  local-le : localSeconds t ≤ 317_000_000_000
+  local-le : localSeconds t ≤ 315_537_897_600
   unfolding localSeconds
-  local-le = omega (arith, days-le (b .date))
+  local-le = omega (arith, days-below (b .date))
 
   -- ---- the offset
   abbrev ahead : ℕ
@@ -44,12 +44,24 @@ module _ (t : Stamp) (b : Stamped t) where
       (λ w. ahead-le)
 
   -- ---- the instant
-  since-abs : natAbs (pos (localSeconds t) -ℤ pos epoch) ≤ 256_000_000_000
-  since-abs = abs-near (localSeconds t) epoch 256_000_000_000 (omega (arith, local-le, epoch-is)) (omega (arith, epoch-is))
+  abbrev since : ℤ
+  since = pos (localSeconds t) -ℤ pos epoch
 
-  pub instant-abs : natAbs (instantOf t) ≤ 300_000_000_000
+  since-parts : (positivePart since ≤ 253_402_300_800) × (negativePart since ≤ 62_135_596_800)
+  since-parts = let p = parts-pos (localSeconds t) epoch in (omega (arith, local-le, epoch-is), omega (arith, epoch-is))
+
+  since-abs : natAbs since ≤ 253_402_300_800
+  since-abs = abs-le since 253_402_300_800 (since-parts .0, omega (arith, since-parts))
+
+  pub instant-parts : (positivePart (instantOf t) ≤ 253_402_351_200) × (negativePart (instantOf t) ≤ 62_135_647_200)
   unfolding instantOf
-  instant-abs = omega (arith, since-abs, offset-abs, abs-sub (pos (localSeconds t) -ℤ pos epoch) (offset t))
+  instant-parts =
+      let s = since-parts in
+      let p = parts-sub since (offset t) in
+      (omega (arith, offset-abs, abs-parts (offset t)), omega (arith, offset-abs, abs-parts (offset t)))
+
+  instant-abs : natAbs (instantOf t) ≤ 253_402_351_200
+  instant-abs = abs-le (instantOf t) 253_402_351_200 (instant-parts .0, omega (arith, instant-parts))
 
   -- ---- the code's arithmetic: the offset
   ahead-reads : Reads ahead (pos ahead)
@@ -80,7 +92,7 @@ module _ (t : Stamp) (b : Stamped t) where
     pub since-fits : SFits w64 (toZ w64 l -ℤ toZ w64 62_135_596_800)
     since-fits = sub-fits local-reads epoch-reads (omega (arith, since-abs))
 
-    since-reads : Reads (ofZ w64 (toZ w64 l -ℤ toZ w64 62_135_596_800)) (pos (localSeconds t) -ℤ pos epoch)
+    since-reads : Reads (ofZ w64 (toZ w64 l -ℤ toZ w64 62_135_596_800)) since
     since-reads = sub-reads local-reads epoch-reads (omega (arith, since-abs))
 
     module _ (z : ℤ) (q : z ≡ offset t) (h : mag z < 9_223_372_036_854_775_808) where

@@ -1,4 +1,4 @@
--- CAP times (document 01, "The document", second paragraph) and the instants they name.
+-- CAP times (document 01, "The document", second paragraph, with request [6] of document 02) and the instants they name.
 use mathlib.Core.Bool.{Bool, true, false, cond, not, _&&_, _||_}
 use mathlib.Core.List.{List, [], _∷_}
 use Prim.Native.Nat.{ℕ, _+_, _*_}
@@ -59,8 +59,12 @@ stampOf l = record {
 abbrev pub isDate : ℕ → ℕ → ℕ → Bool
 isDate y m d = leb 1 y && leb y 9999 && leb 1 m && leb m 12 && leb 1 d && leb d (monthDays y m)
 
+-- [6]: "hour 24 with zero minutes and seconds", and "Any other hour 24 stays refusal 18"
+abbrev pub isDayEnd : ℕ → ℕ → ℕ → Bool
+isDayEnd h m s = eqb h 24 && eqb m 0 && eqb s 0
+
 abbrev pub isClock : ℕ → ℕ → ℕ → Bool
-isClock h m s = leb h 23 && leb m 59 && leb s 59
+isClock h m s = leb h 23 && leb m 59 && leb s 59 || isDayEnd h m s
 
 abbrev pub isOffset : ℕ → ℕ → Bool
 isOffset h m = leb m 59 && leb (60 * h + m) (60 * 14)
@@ -73,7 +77,8 @@ isStamp t =
 
 -- ---- "An instant is whole seconds from 1970, negative before."
 
--- the seconds from 0001-01-01T00:00:00 to what the calendar and the clock say
+-- the seconds from 0001-01-01T00:00:00 to what the calendar and the clock say. Hour 24 lies a whole day after the day's start: [6]'s "meaning 00:00:00
+-- of the next day" (DayEnd.antt)
 unfoldable pub localSeconds : Stamp → ℕ
 localSeconds t =
     86_400 * daysBefore (t .year) (t .month) (t .day) + 3_600 * t .hour + 60 * t .minute + t .second

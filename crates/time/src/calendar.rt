@@ -1,6 +1,6 @@
 // The civil calendar: leap years, and the days before a date, counted from 0001-01-01.
 ghost use mathlib.Core.Path.{_≡_};
-ghost use Prim.Native.Nat.{_≤_};
+ghost use Prim.Native.Nat.{_≤_, _<_};
 ghost use Rattle.time.specs.Calendar.{isLeap, monthDays, daysBeforeYear, daysBeforeMonth, daysBefore};
 ghost use Rattle.time.specs.Limits.{Dated};
 ghost use Rattle.time.specs.Tables.{MonthTable};
@@ -51,7 +51,7 @@ fn days_before_month(before: &[u64; 13], y: u64, m: u64) -> u64
 // The days from 0001-01-01 to a date within the limits.
 pub fn days_before(y: u64, m: u64, d: u64) -> u64
     requires { ⌜ Dated y m d ⌝ }
-    ensures { λ r. ⌜ (r ≡ daysBefore y m d) × (r ≤ 3_660_000) ⌝ }
+    ensures { λ r. ⌜ (r ≡ daysBefore y m d) × (r < 3_652_059) ⌝ }
 {
     days_before_year(y) + days_before_month(&BEFORE, y, m) + (d - 1)
 }

@@ -8,7 +8,7 @@ use mir.Syntax.{w64}
 use Rattle.integers.specs.Bits.{read, read-small}
 use Rattle.time.specs.declared.Time.the-variants.{Instant}
 use Rattle.time.specs.Time.{timeOf, timeAnswer}
-use Rattle.time.proofs.Range.{range}
+use Rattle.time.proofs.Range.{range-abs, exact-range}
 
 pub instant-small : (l : List ℕ) (z : ℤ) → timeOf l ≡ timeAnswer (Instant z) → natAbs (read w64 z) ≤ 9_223_372_036_854_775_807
-instant-small l z e = let h = range l z e in rw (read-small z (omega arith)) (omega arith)
+instant-small l z e = let h = range-abs z (exact-range .within l z e) in rw (read-small z (omega arith)) (omega arith)

@@ -1,4 +1,4 @@
--- The difference of near instants fits, and the test is the range of lasting times.
+-- The difference of instants in range fits, and the test is that of lasting times.
 use Rattle.parts.proofs.Durations.{far-fits, far-cast, far-stated, far-out}
 use Rattle.parts.proofs.lasting.lasts_between.Statement.{statement}
 use Rattle.parts.proofs.lasting.lasts_between.Tie as tie

@@ -1,15 +1,15 @@
--- By the two times; near instants are handed on.
+-- By the two times; instants in range are handed on.
 use mathlib.Core.Path.{_∙_}
 use borrow.Author.Needs.{needs}
-use Rattle.parts.proofs.Durations.{near-read, lasts-given}
+use Rattle.parts.proofs.Durations.{range-read, lasts-given}
 use Rattle.parts.proofs.lasting.lasts_from.Statement.{statement}
 use Rattle.parts.proofs.lasting.lasts_from.Tie as tie
 
 lasts-between-requires : tie.Need-lasts-between-requires
 lasts-between-requires c κs =
     let a = c .before .before .before .before .before .before .args in (
-      near-read (a .start) _ (c .before .start .given .1) (c .before .before .before .before .before .before .pre .0),
-      near-read (a .expires) _
+      range-read (a .start) _ (c .before .start .given .1) (c .before .before .before .before .before .before .pre .0),
+      range-read (a .expires) _
           (c .before .before .before .before .expires .given .1) (c .before .before .before .before .before .before .pre .1),
     )
 

@@ -1,10 +1,11 @@
--- Each time is that of its text, and times that texts say are near.
+-- Each time is that of its text, and so in range.
 use borrow.Author.Needs.{needs}
 use Rattle.sheet.specs.Reading.{spanIn}
 use Rattle.schema.specs.Classes as class
 use Rattle.parts.specs.Sheets.{lastsOf}
 use Rattle.parts.specs.Gathering.{alertSpan, partSpan}
-use Rattle.parts.proofs.Durations.{near-time, near-from}
+use Rattle.time.proofs.Range.{time-range}
+use Rattle.parts.proofs.Durations.{start-range}
 use Rattle.parts.proofs.sheets.lasts_of.Statement.{statement}
 use Rattle.parts.proofs.sheets.lasts_of.Tie as tie
 
@@ -12,8 +13,8 @@ lasts-from-requires : tie.Need-lasts-from-requires
 lasts-from-requires c κs =
     let a = c .before .before .before .before .before .before .before .before .args in (
       rw (c .start-of .ensures, c .before .before .before .before .before .time-in .ensures, c .before .before .before .time-in2 .ensures)
-          (near-from (spanIn (a .s .now) (partSpan (a .t2) class.effective)) (spanIn (a .s .now) (alertSpan (a .t2) class.sent))),
-      rw (c .before .time-in3 .ensures) (near-time (spanIn (a .s .now) (partSpan (a .t2) class.expires))),
+          (start-range (spanIn (a .s .now) (partSpan (a .t2) class.effective)) (spanIn (a .s .now) (alertSpan (a .t2) class.sent))),
+      rw (c .before .time-in3 .ensures) (time-range (spanIn (a .s .now) (partSpan (a .t2) class.expires))),
     )
 
 returns : tie.Need-returns

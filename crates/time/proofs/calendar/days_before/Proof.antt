@@ -2,7 +2,7 @@
 use native.Mathlib.Omega.{arith}
 use borrow.Author.Needs.{needs}
 use Rattle.time.specs.Calendar.{daysOfMonths}
-use Rattle.time.proofs.Bounds.{days-le}
+use Rattle.time.proofs.Bounds.{days-below}
 use Rattle.time.proofs.calendar.days_before.Statement.{statement}
 use Rattle.time.proofs.calendar.days_before.Tie as tie
 
@@ -10,5 +10,5 @@ pub days-before-spec : {M : Type 1} → statement M
 unfolding daysOfMonths
 days-before-spec =
     tie.close
-    (tie.spec (λ c κs. search needs) (λ c κs. search needs) (λ c. omega (arith, days-le (c .before .before .before .pre))) (λ c. search needs)
-    (λ c. omega (arith, days-le (c .before .before .before .pre))) (λ c. (search needs, omega (arith, days-le (c .before .before .before .pre)))))
+    (tie.spec (λ c κs. search needs) (λ c κs. search needs) (λ c. omega (arith, days-below (c .before .before .before .pre))) (λ c. search needs)
+    (λ c. omega (arith, days-below (c .before .before .before .pre))) (λ c. (search needs, omega (arith, days-below (c .before .before .before .pre)))))
