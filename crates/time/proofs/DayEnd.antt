@@ -1,27 +1,21 @@
 -- Hour 24 is 00:00:00 of the next day.
-use mathlib.Core.Path.{_≡_, refl, ap}
-use mathlib.Core.Bool.{true, false, _&&_, _||_}
+use mathlib.Core.Path.{_≡_, ap}
+use mathlib.Core.Bool.{true, false, _&&_}
 use Prim.Native.Nat.{ℕ, _+_, _≤_}
 use native.Mathlib.Omega.{arith}
 use borrow.Author.Tests.{le-leb, ltb-true, ltb-false}
-use lib.Dec.{eqb, ltb}
+use lib.Dec.{ltb}
 use lib.IntN.{pos, _-ℤ_}
 use Rattle.text.specs.Logic.{cond-cases, and-right}
 use Rattle.time.specs.declared.Stamp.{Stamp}
-use Rattle.time.specs.Calendar.{isLeap, monthDays, daysOfYears, daysOfMonths, daysBeforeYear, daysBeforeMonth, daysBefore}
+use Rattle.time.specs.Calendar.{monthDays, daysOfYears, daysOfMonths, daysBeforeYear, daysBeforeMonth, daysBefore}
 use Rattle.time.specs.Time.{isDate, isClock, isOffset, isStamp, localSeconds, epoch, offset, instantOf}
 use Rattle.time.specs.Limits.{Dated}
 use Rattle.time.specs.DayEnd.{startOfDay, startOfNext, DayEnd}
-use Rattle.time.proofs.Days.{year-added, month-added, year-whole}
+use Rattle.time.proofs.Days.{year-added, month-range, month-added, year-whole}
 use Rattle.time.proofs.Bounds.{stamped}
 
 -- ---- dates
-
--- each month has a first day
-month-first : (y m : ℕ) → 1 ≤ monthDays y m
-month-first y m =
-    cond-cases (λ n. 1 ≤ n) (eqb m 2) _ _ (λ e. cond-cases (λ n. 1 ≤ n) (isLeap y) 29 28 (λ f. omega arith) (λ f. omega arith))
-    (λ e. cond-cases (λ n. 1 ≤ n) (eqb m 4 || eqb m 6 || eqb m 9 || eqb m 11) 30 31 (λ f. omega arith) (λ f. omega arith))
 
 date-is : {y m d : ℕ} → Dated y m d → isDate y m d ≡ true
 date-is {y} {m} {d} b =
@@ -104,7 +98,7 @@ module _ (t : Stamp) (e : isStamp t ≡ true) (h : t .hour ≡ 24) where
         month-low = omega arith;
         month-high = omega (arith, ltb-true (t .month) 12 k);
         day-low = omega arith;
-        day-high = month-first (t .year) (t .month + 1);
+        day-high = omega (arith, month-range (t .year) (t .month + 1));
       }))
       (λ k.
       follows (t .year + 1) 1 1 (year-end b l k)
@@ -114,7 +108,7 @@ module _ (t : Stamp) (e : isStamp t ≡ true) (h : t .hour ≡ 24) where
         month-low = omega arith;
         month-high = omega arith;
         day-low = omega arith;
-        day-high = month-first (t .year + 1) 1;
+        day-high = omega (arith, month-range (t .year + 1) 1);
       })))
 
 pub day-end : DayEnd

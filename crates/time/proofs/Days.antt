@@ -11,7 +11,7 @@ use borrow.Author.Tests.{eqb-true, eq-eqb, ne-eqb}
 use lib.Dec.{eqb, ltb}
 use lib.ListN.{getD}
 use mir.Val.{boolByte}
-use Rattle.text.specs.Logic.{by-test, and-left, and-right, below-at}
+use Rattle.text.specs.Logic.{by-test, cond-cases, and-left, and-right, below-at}
 use Rattle.time.specs.Calendar.{isLeap, yearDays, monthDays, daysOfYears, daysOfMonths, daysBeforeYear, daysBeforeMonth}
 use Rattle.time.specs.Tables.{hasMonth, MonthTable}
 
@@ -80,20 +80,20 @@ years-closed k = omega (arith, years-sum k, div-le-self k 100)
 
 -- ---- months
 
-cond-le : {k a b : ℕ} (t : Bool) → a ≤ k → b ≤ k → cond t a b ≤ k
-cond-le true h g = h
-cond-le false h g = g
+-- a month has 28 to 31 days
+abbrev Month : ℕ → Type 0
+Month n = (28 ≤ n) × (n ≤ 31)
 
-pub month-le : (y m : ℕ) → monthDays y m ≤ 31
-month-le y m =
-    cond-le (eqb m 2)
-    (cond-le (isLeap y) (omega arith) (omega arith))
-    (cond-le (eqb m 4 || eqb m 6 || eqb m 9 || eqb m 11) (omega arith) (omega arith))
+pub month-range : (y m : ℕ) → Month (monthDays y m)
+month-range y m =
+    cond-cases Month (eqb m 2) _ _
+    (λ e. cond-cases Month (isLeap y) 29 28 (λ f. (omega arith, omega arith)) (λ f. (omega arith, omega arith)))
+    (λ e. cond-cases Month (eqb m 4 || eqb m 6 || eqb m 9 || eqb m 11) 30 31 (λ f. (omega arith, omega arith)) (λ f. (omega arith, omega arith)))
 
 pub months-le : (y n : ℕ) → daysOfMonths y n ≤ 31 * n
 unfolding daysOfMonths
 months-le y zero = omega arith
-months-le y (suc n) = omega (arith, months-le y n, month-le y (suc n))
+months-le y (suc n) = omega (arith, months-le y n, month-range y (suc n))
 
 -- the days before a month and its own
 pub month-added : (y m : ℕ) → 1 ≤ m → daysBeforeMonth y m + monthDays y m ≡ daysOfMonths y m
