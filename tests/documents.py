@@ -7,13 +7,13 @@ MARK, which is taken out (no mark: the document's length). The answers were work
 says otherwise.
 """
 import glob
-import itertools
 import os
 import sys
 
 HERE = os.path.dirname(os.path.abspath(__file__))
 sys.path.insert(0, os.path.join(HERE, "model"))
 import model02 as model
+import values
 
 FOLDER = os.path.join(HERE, "..", "crates", "document_test")
 MARK = "¶"
@@ -165,24 +165,19 @@ REFUSED = [
 ]
 
 
-# request [6], in each of the four time elements: the last days of months, of a leap year's February and year, and of the year 9999
-DAY_ENDS = ("2023-01-31", "2023-02-28", "2023-03-31", "2023-04-30", "2023-05-31", "2023-06-30", "2023-07-31", "2023-08-31", "2023-09-30", "2023-10-31",
-            "2023-11-30", "2023-12-31", "2024-02-28", "2024-02-29", "2024-12-31", "9999-12-31")
-OFFSETS = ("-07:00", "+00:00", "+14:00", "-00:00", "-14:00", "+05:30")
+# request [6], in each of the four time elements
 SHORT = START + "<identifier>A</identifier><sender>b</sender>{}<status>Actual</status><msgType>Alert</msgType><scope>Public</scope>{}" + END
 TIMED = "<info><category>Met</category><event/><urgency>Past</urgency><severity>Minor</severity><certainty>Likely</certainty>{}</info>"
 
 
 def day_ends():
-    """A document for each time from hour 23 to 25: (document, answer)"""
-    for i, day in enumerate(DAY_ENDS):
-        for clock in itertools.product((23, 24, 25), (0, 1, 59), (0, 1, 59)):
-            time = "{}T{:02}:{:02}:{:02}{}".format(day, *clock, OFFSETS[i % len(OFFSETS)])
-            for element in ("sent", "effective", "onset", "expires"):
-                timed = f"<{element}>{time}</{element}>"
-                document = SHORT.format(timed, "") if element == "sent" else SHORT.format(SENT, TIMED.format(timed))
-                taken = clock[0] == 23 or clock == (24, 0, 0)
-                yield document.encode(), f"accepted {int(element != 'sent')}" if taken else f"refused 18 at {document.index(time)}"
+    """A document for each time around a day's end: (document, answer)"""
+    for time, clock in values.around_day_end(values.DAY_ENDS):
+        for element in ("sent", "effective", "onset", "expires"):
+            timed = f"<{element}>{time}</{element}>"
+            document = SHORT.format(timed, "") if element == "sent" else SHORT.format(SENT, TIMED.format(timed))
+            taken = clock[0] == 23 or clock == (24, 0, 0)
+            yield document.encode(), f"accepted {int(element != 'sent')}" if taken else f"refused 18 at {document.index(time)}"
 
 
 def vectors():

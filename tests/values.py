@@ -5,6 +5,7 @@ The answers come from tests/model/model02.py, which was written from documents 0
 decimal modules. Run it from the repository's root after a change to the cases; the gate compares the program with stdout.
 """
 import datetime
+import itertools
 import math
 import os
 import sys
@@ -17,10 +18,17 @@ FOLDER = os.path.join(os.path.dirname(__file__), "..", "crates", "values_test")
 
 # ---- times
 
-# the last days of months, of a leap year's February and year, and of the last year; a leap year's 28 February; the first day
+# the last days of a common year's months, of a leap year's February (and the day before) and year, and of the last year
 DAY_ENDS = ("2023-01-31", "2023-02-28", "2023-03-31", "2023-04-30", "2023-05-31", "2023-06-30", "2023-07-31", "2023-08-31", "2023-09-30", "2023-10-31",
-            "2023-11-30", "2023-12-31", "2024-02-28", "2024-02-29", "2024-12-31", "1900-02-28", "2000-02-29", "0001-01-01", "9999-12-31")
+            "2023-11-30", "2023-12-31", "2024-02-28", "2024-02-29", "2024-12-31", "9999-12-31")
 OFFSETS = ("+00:00", "-00:00", "-07:00", "+05:30", "+14:00", "-14:00", "+13:59", "-00:01")
+
+
+def around_day_end(days):
+    """Hours 23 to 25 with minutes and seconds 0, 1 and 59 on each day: (text, hour, minute and second)"""
+    for i, day in enumerate(days):
+        for clock in itertools.product((23, 24, 25), (0, 1, 59), (0, 1, 59)):
+            yield "{}T{:02}:{:02}:{:02}{}".format(day, *clock, OFFSETS[i % len(OFFSETS)]), clock
 
 
 def times():
@@ -39,11 +47,8 @@ def times():
     for hour in (0, 9, 12, 19, 20, 23, 24, 25, 30, 99):
         yield f"2023-06-15T{hour:02}:00:00+00:00"
     # hour 24 with zero minutes and seconds, and the times around it, at ends of months, of years, of the calendar
-    for i, day in enumerate(DAY_ENDS):
-        for hour in (23, 24, 25):
-            for minute in (0, 1, 59):
-                for second in (0, 1, 59):
-                    yield f"{day}T{hour}:{minute:02}:{second:02}{OFFSETS[i % len(OFFSETS)]}"
+    for time, clock in around_day_end(DAY_ENDS + ("1900-02-28", "2000-02-29", "0001-01-01")):
+        yield time
     for offset in OFFSETS + ("+14:01", "-14:01", "+24:00", "-24:00", "+00:60"):
         yield f"9999-12-31T24:00:00{offset}"
     yield from ["0000-12-31T24:00:00+00:00", "2023-02-29T24:00:00+00:00", "2023-04-31T24:00:00+00:00", " 2024-02-28T24:00:00-07:00\n",
