@@ -77,13 +77,16 @@ static inline void race(struct runner *runners, size_t count) {
     }
 }
 
-/* A table of the project's wishes: how many times as fast as another something is to be at least. */
+/* A table of the project's wishes: what is to be at least so much, as how many times as fast as another something is, or at most so much. */
 static inline void wishes(void) { printf("\n| wish | wanted | measured | holds |\n|---|---:|---:|---|\n"); }
-static inline void wish(const char *what, const char *of, double wanted, double measured) {
-    printf("| %s: %s | %.0f | %.2f | ", what, of, wanted, measured);
-    if (measured >= wanted) printf("yes |\n");
-    else printf("**no**, short by %.2f (%.0f %%) |\n", wanted - measured, (wanted - measured) / wanted * 100);
+static inline void wish_row(const char *what, const char *of, bool at_most, double wanted, double measured) {
+    double missing = at_most ? measured - wanted : wanted - measured;
+    printf("| %s: %s | %s%g | %.2f | ", what, of, at_most ? "at most " : "", wanted, measured);
+    if (missing <= 0) printf("yes |\n");
+    else printf("**no**, %s by %.2f (%.0f %%) |\n", at_most ? "over" : "short", missing, missing / wanted * 100);
 }
+static inline void wish(const char *what, const char *of, double wanted, double measured) { wish_row(what, of, false, wanted, measured); }
+static inline void wish_at_most(const char *what, const char *of, double wanted, double measured) { wish_row(what, of, true, wanted, measured); }
 
 /* A table of growth: what a unit (a byte, an entry) costs of a small and of a large input. Linear: a quarter more at most. */
 static inline void growths(const char *unit, const char *small, const char *large) {

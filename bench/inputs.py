@@ -56,14 +56,48 @@ SENTENCES = [
 ]
 
 
-def ring(pairs, latitude, longitude):
-    """A closed ring of that many pairs around a place: a rosette of seven leaves with small teeth."""
+def star(pairs, latitude, longitude, radius):
+    """A closed ring of that many pairs around a place; the radius is a function of the angle, so that the ring doesn't cross itself."""
     points = []
     for i in range(pairs - 1):
         a = 2 * math.pi * i / (pairs - 1)
-        r = 0.8 + 0.1 * math.sin(7 * a) + 0.02 * math.sin(61 * a)
+        r = radius(a)
         points.append((f"{latitude + r * math.sin(a):.4f}", f"{longitude + r * math.cos(a):.4f}"))
     return points + points[:1]
+
+
+def ring(pairs, latitude, longitude):
+    """A closed ring of that many pairs around a place: a rosette of seven leaves with small teeth."""
+    return star(pairs, latitude, longitude, lambda a: 0.8 + 0.1 * math.sin(7 * a) + 0.02 * math.sin(61 * a))
+
+
+def noise(seed):
+    """Endless numbers from -1 to 1: no generator of Python's, which another version may change."""
+    while True:
+        seed = (6_364_136_223_846_793_005 * seed + 1_442_695_040_888_963_407) % 2**64
+        yield (seed >> 11) / 2**52 - 1
+
+
+def coast(pairs):
+    """A coast around 46 north, 11 east, jagged on every scale down to the single edge: one and the same, drawn finer with more pairs."""
+    numbers = noise(1)
+    octaves = [[0.2 / math.sqrt(2**k) * next(numbers) for _ in range(2**k)] for k in range(2, 13)]
+
+    def radius(a):
+        r = 0.8
+        for knots in octaves:
+            share, i = math.modf(a / (2 * math.pi) * len(knots))
+            r += (1 - share) * knots[int(i)] + share * knots[(int(i) + 1) % len(knots)]
+        return r
+
+    return star(pairs, 46, 11, radius)
+
+
+def comb(pairs):
+    """A comb, where the least can be skipped: all edges but the three of its back cross each latitude from 45.6 to 46.8 north."""
+    points = [(46.8 if i % 2 else 45.6, 10.2 + 0.0004 * i) for i in range(pairs - 3)]
+    points += [(45.2, points[-1][1]), (45.2, points[0][1]), points[0]]
+    return [(f"{latitude:.4f}", f"{longitude:.4f}") for latitude, longitude in points]
 
 
 def polygon(points):
@@ -109,13 +143,14 @@ def main(folder):
         write(f"alert-{kilobytes}.xml", largest(min(1_024 * kilobytes, LIMIT), lambda n: alert(infos, n, points, geocodes)))
     write("polygon.xml", largest(LIMIT, lambda n: alert(1, 3, ring(3_000 + 10 * n, 38, -120), 0)))
 
-    # rings, with longitudes of two digits so that 4,000 pairs fit into a document
-    for pairs in (100, 1_000, 4_000):
-        points = ring(pairs, 46, 11)
+    # rings for places, with longitudes of two digits so that 4,000 pairs fit into a document
+    rings = {f"coast-{pairs}": coast(pairs) for pairs in (100, 1_000, 4_000)}
+    rings["comb-4000"] = comb(4_000)
+    for name, points in rings.items():
         document = alert(1, 1, points, 0)
         assert len(document) <= LIMIT, len(document)
-        write(f"ring-{pairs}.xml", document)
-        write(f"ring-{pairs}.wkt", ("POLYGON ((" + ", ".join(f"{longitude} {latitude}" for latitude, longitude in points) + "))").encode())
+        write(name + ".xml", document)
+        write(name + ".wkt", ("POLYGON ((" + ", ".join(f"{longitude} {latitude}" for latitude, longitude in points) + "))").encode())
 
     # a packet of key 21 and event 7 with sequence number 2, of the least length
     head = b"WARN" + struct.pack(">BBHQIHH6BQQQiiH", 1, 0, 0x8000, 1_000_000, 7, 2, 60, 1, 0, 3, 2, 1, 0, 1_000_000, 1_003_900, 1_000_000,

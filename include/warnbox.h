@@ -31,7 +31,7 @@ extern "C" {
 #endif
 
 /* Major times 10,000, minor times 100 and patch; warnbox_version gives that of the archive. */
-#define WARNBOX_VERSION 10200
+#define WARNBOX_VERSION 10201
 uint32_t warnbox_version(void);
 
 /* in bytes */

@@ -1,5 +1,5 @@
 #!/usr/bin/env bash
-# Runs the built programs on the samples of tests/vectors and tests/requests and compares what they write byte for byte. Its last line is 'N passed, M failed'.
+# Runs the built programs on the samples of tests/vectors and tests/requests, and on the coasts of tests/coasts.py, and compares what they write byte for byte. Its last line is 'N passed, M failed'.
 cd "$(dirname "$0")/.."
 passed=0
 failed=0
@@ -19,7 +19,8 @@ expect() {
 
 got=$(mktemp)
 wanted=$(mktemp)
-trap 'rm -f "$got" "$wanted"' EXIT
+coasts=$(mktemp -d)
+trap 'rm -rf "$got" "$wanted" "$coasts"' EXIT
 
 for document in tests/vectors/*.xml tests/requests/*.xml; do
     target/bin/sentences <"$document" >"$got"
@@ -31,12 +32,17 @@ for packet in tests/vectors/*.hex; do
     expect "$packet" "${packet%.hex}.out" "$got"
 done
 
-# lines of tests/places.txt: DOCUMENT LATITUDE LONGITUDE ANSWER, with "/" for a line's end in the answer
-while read -r document latitude longitude answer; do
-    target/bin/inside "$latitude" "$longitude" <"tests/$document.xml" >"$got"
-    echo "$answer" | tr / '\n' >"$wanted"
-    expect "$document $latitude $longitude" "$wanted" "$got"
-done <tests/places.txt
+# ask FOLDER: lines of FOLDER/places.txt: DOCUMENT LATITUDE LONGITUDE ANSWER, with "/" for a line's end in the answer
+ask() {
+    while read -r document latitude longitude answer; do
+        target/bin/inside "$latitude" "$longitude" <"$1/$document.xml" >"$got"
+        echo "$answer" | tr / '\n' >"$wanted"
+        expect "$document $latitude $longitude" "$wanted" "$got"
+    done <"$1/places.txt"
+}
+ask tests
+python3 tests/coasts.py "$coasts"
+ask "$coasts"
 
 cat tests/vectors/007-I4.out tests/vectors/warn-01-sample.out >"$wanted"
 target/bin/list_readbacks <"$wanted" >"$got"

@@ -200,6 +200,11 @@ def polygons():
         yield f"0,{lon}", long_edge
     yield "89.9999999,179.9999998", long_edge
     yield "-89.9999999,-179.9999998", long_edge
+    # edges that start or end at the place's latitude, in every way: each vertex north of it, at it or south of it
+    for latitudes in itertools.product((-1, 0, 1), repeat=4):
+        text = " ".join(f"{latitude},{longitude}" for latitude, longitude in zip(latitudes, (1, 3, 2, 0)))
+        for place in ("0,1", "0,0.5"):
+            yield place, f"{text} {latitudes[0]},1"
     # texts
     for text in ("", " ", "0,0", "0,0 0,1 1,1", "0,0 0,1 0,0", "0,0 0,1 1,1 0,0", "0,0 0,1 1,1 -0.0,+000", "0,0 0,1 1,1 0,0.0000001",
                  "\t0,0\n0,1\r1,1  0,0 \n", "0,0\x0b0,1 1,1 0,0", "0,0 0,1 1,1 0,0 x", "0,0;0,1 1,1 0,0", "0, 0 0,1 1,1 0,0",

@@ -27,7 +27,7 @@ CERTAINTIES = ("observed", "likely", "possible", "unlikely", "unknown")
 
 OUT_OF_RANGE = -1  # no fact of a sheet may be this
 
-VERSION = 10_200
+VERSION = 10_201
 NAMES = {1: b"packet too short", 2: b"not a WARN packet", 3: b"version not known", 4: b"not an alert", 5: b"packet too long",
          6: b"place out of range", 7: b"lasting time out of range", 8: b"key not listed", 9: b"signature not verified",
          10: b"sequence number not above the stored one", 11: b"no free entry in the table", 12: b"clock too late", 13: b"no room in the buffer",

@@ -35,7 +35,7 @@ def centre(rng):
 def polygon(rng):
     """At least 4 pairs, the last equal to the first."""
     count = rng.choice((3, 3, 4, 4, 5, 6, 8, rng.randint(3, 40)))
-    vertices = spread_vertices(rng, count) if chance(rng, 20) else near_vertices(rng, count)
+    vertices = rng.choice((spread_vertices, near_vertices, near_vertices, near_vertices, level_vertices))(rng, count)
     return vertices + vertices[:1]
 
 
@@ -51,6 +51,14 @@ def near_vertices(rng, count):
     grain = rng.choice(GRAINS)
     steps = rng.choice((2, 3, 5, 9, 60))
     return [(clamp(latitude + grain * rng.randint(-steps, steps), LATITUDE), clamp(longitude + grain * rng.randint(-steps, steps), LONGITUDE))
+            for _ in range(count)]
+
+
+def level_vertices(rng, count):
+    """Mostly at one latitude or a unit beside it, so that a place there has many edges that start or end at its latitude."""
+    latitude, longitude = centre(rng)
+    grain = rng.choice(GRAINS)
+    return [(clamp(latitude + rng.choice((0, 0, 0, 1, -1, grain, -grain)), LATITUDE), clamp(longitude + grain * rng.randint(-9, 9), LONGITUDE))
             for _ in range(count)]
 
 

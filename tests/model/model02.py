@@ -1223,7 +1223,7 @@ def _edge(end1, end2, lat, lon):
     return None
 
 
-def _polygon_holds(pairs, lat, lon, skipping=True):
+def _polygon_holds(pairs, lat, lon, skipping=False):
     odd = False
     for end1, end2 in zip(pairs, pairs[1:]):
         if skipping and _edge_skipped(end1[0], end2[0], lat):

@@ -246,7 +246,7 @@ def r2():
     square = [(0, 0), (0, 4), (4, 4), (4, 0), (0, 0)]
     for why, lat, lon in (("inside", 2, 2), ("outside east", 2, 5), ("outside above: all edges skipped", 5, 2),
                           ("on the top edge", 4, 2), ("on a vertex", 0, 0), ("level with the top, outside", 4, 5)):
-        check("same answer with and without skipping: " + why, o._polygon_holds(square, lat, lon),
+        check("same answer with and without skipping: " + why, o._polygon_holds(square, lat, lon, skipping=True),
               o._polygon_holds(square, lat, lon, skipping=False))
     rnd = random.Random(2)
     same = never = True
@@ -254,7 +254,7 @@ def r2():
         pts = [(rnd.randint(-4, 4), rnd.randint(-4, 4)) for _ in range(rnd.randint(3, 9))]
         pts.append(pts[0])
         y, x = rnd.randint(-5, 5), rnd.randint(-5, 5)
-        same = same and o._polygon_holds(pts, y, x) == o._polygon_holds(pts, y, x, skipping=False)
+        same = same and o._polygon_holds(pts, y, x, skipping=True) == o._polygon_holds(pts, y, x, skipping=False)
         never = never and all(o._edge(a, b, y, x) is None for a, b in zip(pts, pts[1:])
                               if o._edge_skipped(a[0], b[0], y))
     check("random polygons: the answers are the same", same, True)

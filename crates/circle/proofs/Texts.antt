@@ -1,23 +1,24 @@
 -- A circle's text by its two tokens: what skipping white space and finding the ends of tokens says of `tokens`.
 use mathlib.Core.Path.{_≡_, refl, sym, ap, _∙_}
-use mathlib.Core.Bool.{true}
+use mathlib.Core.Bool.{true, _&&_}
 use mathlib.Core.List.{List, [], _∷_}
 use mathlib.Core.Logic.{⊎-elim}
 use Prim.Native.Nat.{ℕ, _+_, _-_, _≤_}
 use native.Mathlib.Nat.{add-sub-cancel-left, zero-add}
 use native.Mathlib.Omega.{arith}
+use lib.Dec.{eqb, leb}
 use lib.ListN.{length, take, drop, length-drop, drop-of-length-le}
 use lib.Seq.{drop-drop}
-use Rattle.text.specs.Answers.{Answer, gives, refuses}
+use Rattle.text.specs.Answers.{Answer, gives, refuses, andThen, answerNumber}
 use Rattle.text.specs.Bytes.{spaces, dropSpace}
-use Rattle.text.specs.Logic.{cond-cases}
+use Rattle.text.specs.Logic.{cond-cases, and-right}
 use Rattle.text.specs.Tokens.{onToken, tokens, tokenLength}
 use Rattle.text.proofs.Laws.{tokens-space, tokens-next, token-or-end, spaces-within, token-within}
 use Rattle.coordinates.specs.declared.Place.{Place}
 use Rattle.coordinates.specs.Place.{pairOf, coordinateAt}
-use Rattle.coordinates.specs.Decimal.{radiusOf, isRadius, scaled, isDecimal, places, leads}
+use Rattle.coordinates.specs.Decimal.{radiusOf, isRadius, scaled, isDecimal, decimalLength, places, leads}
 use Rattle.coordinates.proofs.Readers.{pair-cases}
-use Rattle.circle.specs.Circle.{circleFrom, circleTokens, circleOf}
+use Rattle.circle.specs.Circle.{circleFrom, circleTokens, circleOf, aroundHolds, circleHolds}
 
 -- an empty text is neither a pair nor a radius
 pair-empty : pairOf [] ≡ refuses 22 0
@@ -32,15 +33,19 @@ radius-empty = refl
 no-radius : (t : List ℕ) → circleFrom (pairOf t) (refuses 22 0) ≡ refuses 22 0
 no-radius t = pair-cases t (λ a. circleFrom a (refuses 22 0) ≡ refuses 22 0) (λ p. refl) refl
 
--- a text is a circle, or it is refused with 22
-pub circle-cases : (l : List ℕ) (P : Answer (Place × ℕ) → Type 0) → ((c : Place) (m : ℕ) → P (gives (c, m))) → P (refuses 22 0) → P (circleOf l)
+-- a text is a circle, with a radius within its limit, or it is refused with 22
+pub circle-cases :
+    (l : List ℕ) (P : Answer (Place × ℕ) → Type 0) → ((c : Place) (m : ℕ) → leb m 20_000_000 ≡ true → P (gives (c, m))) → P (refuses 22 0)
+    → P (circleOf l)
 unfolding circleOf circleTokens radiusOf
 circle-cases l P f g = go (tokens l)
   where
     around : (a b : List ℕ) → P (circleFrom (pairOf a) (radiusOf b))
     around a b =
         pair-cases a (λ p. P (circleFrom p (radiusOf b)))
-        (λ c. cond-cases (λ r. P (circleFrom (gives c) r)) (isRadius b) (gives (scaled 3 b)) (refuses 22 0) (λ t. f c (scaled 3 b)) (λ t. g))
+        (λ c.
+        cond-cases (λ r. P (circleFrom (gives c) r)) (isRadius b) (gives (scaled 3 b)) (refuses 22 0)
+        (λ t. f c (scaled 3 b) (and-right (isDecimal 5 3 b && eqb (decimalLength b) (length b)) (leb (scaled 3 b) 20_000_000) t)) (λ t. g))
         g
 
     go : (ts : List (List ℕ)) → P (circleTokens ts)
@@ -48,6 +53,12 @@ circle-cases l P f g = go (tokens l)
     go (a ∷ []) = g
     go (a ∷ b ∷ []) = around a b
     go (a ∷ b ∷ c ∷ ts) = g
+
+-- a text that is asked about a place is refused just as it is where it is read
+pub holds-number : (l : List ℕ) (p : Place) → answerNumber (circleHolds l p) ≡ answerNumber (circleOf l)
+unfolding circleHolds aroundHolds
+holds-number l p =
+    circle-cases l (λ a. answerNumber (andThen a (λ c. aroundHolds (c .0) (c .1) p)) ≡ answerNumber a) (λ c m h. rw h) refl
 
 -- the first token of a text, and what stands after it; both empty where it has none
 abbrev token : List ℕ → List ℕ

@@ -1,6 +1,7 @@
 pub mod Numbers
 pub mod Events
 pub mod Runs
+pub mod Tested
 pub mod Loops
 pub mod Accepted
 pub mod Sound

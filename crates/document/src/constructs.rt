@@ -9,6 +9,7 @@ use crate::tags::tag_step;
 use xml::Comment;
 ghost use mathlib.Core.Path.{_≡_};
 ghost use Rattle.document.specs.Constructs.{commentStep, stopStep, constructStep, stepOf};
+ghost use Rattle.document.specs.Tested.{tested, testedUnless};
 
 // A comment.
 fn comment_step(s: &[u8], m: Mode, comment: Comment) -> Step
@@ -37,8 +38,8 @@ fn stop_step(s: &[u8], m: Mode) -> Step
 }
 
 // The construct at the mode's offset.
-fn construct_step(s: &[u8], m: Mode) -> Step
-    ensures { λ r. ⌜ r ≡ constructStep (now (s .entry)) m ⌝ }
+fn construct_step(s: &[u8], m: Mode, test: bool) -> Step
+    ensures { λ r. ⌜ testedUnless test (now (s .entry)) r ≡ constructStep (now (s .entry)) m ⌝ }
 {
     let at = m.at;
     if s.len() <= at {
@@ -48,7 +49,7 @@ fn construct_step(s: &[u8], m: Mode) -> Step
         return comment_step(s, m, xml::comments::read_comment(s, at + 4));
     }
     if s[at] == b'<' {
-        return tag_step(s, m);
+        return tag_step(s, m, test);
     }
     Step::Refused(15, at)
 }
@@ -57,5 +58,12 @@ fn construct_step(s: &[u8], m: Mode) -> Step
 pub fn take_step(s: &[u8], m: Mode) -> Step
     ensures { λ r. ⌜ r ≡ stepOf (now (s .entry)) m ⌝ }
 {
-    construct_step(s, after_space(s, m))
+    construct_step(s, after_space(s, m), true)
+}
+
+// The construct after the white space at the mode's offset. The rule of its text, if it tells one, is still to be tested.
+pub fn read_step(s: &[u8], m: Mode) -> Step
+    ensures { λ r. ⌜ tested (now (s .entry)) r ≡ stepOf (now (s .entry)) m ⌝ }
+{
+    construct_step(s, after_space(s, m), false)
 }

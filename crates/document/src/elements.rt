@@ -10,6 +10,7 @@ ghost use mathlib.Core.Path.{_≡_};
 ghost use Rattle.xml.specs.Texts.{content};
 ghost use Rattle.schema.specs.Sequences.{nextOf};
 ghost use Rattle.document.specs.Tags.{ruled, textStep, enterStep, isMisplaced, openStep, emptyStep};
+ghost use Rattle.document.specs.Tested.{testedUnless};
 
 // How many infos an alert may have.
 const MAX_INFOS: usize = 16;
@@ -35,13 +36,16 @@ fn rule_step(
     Step::Refused(number, from)
 }
 
-// The text of a leaf, which starts at an offset.
-fn text_step(s: &[u8], m: Mode, state: usize, class: usize, from: usize) -> Step
-    ensures { λ r. ⌜ r ≡ textStep (now (s .entry)) m state class from (content (now (s .entry)) from) ⌝ }
+// The text of a leaf, which starts at an offset; its rule is tested or not.
+fn text_step(s: &[u8], m: Mode, test: bool, state: usize, class: usize, from: usize) -> Step
+    ensures { λ r. ⌜ testedUnless test (now (s .entry)) r ≡ textStep (now (s .entry)) m state class from (content (now (s .entry)) from) ⌝ }
 {
     let content = xml::texts::read_text(s, from);
     match content {
         Content::Clean(e) => {
+            if !test {
+                return rule_step(m, state, class, class, from, e, 0);
+            }
             let number = rules::text_rule(class, text::part(s, from, e));
             rule_step(m, state, class, class, from, e, number)
         }
@@ -75,8 +79,8 @@ fn is_misplaced(m: Mode, class: usize, state: usize) -> bool
 }
 
 // The start tag of an element of a class, which ends before an offset.
-pub fn open_step(s: &[u8], m: Mode, class: usize, next: usize) -> Step
-    ensures { λ r. ⌜ r ≡ openStep (now (s .entry)) m class next ⌝ }
+pub fn open_step(s: &[u8], m: Mode, test: bool, class: usize, next: usize) -> Step
+    ensures { λ r. ⌜ testedUnless test (now (s .entry)) r ≡ openStep (now (s .entry)) m class next ⌝ }
 {
     let state = schema::order::next(m.state, class);
     if is_misplaced(m, class, state) {
@@ -85,7 +89,7 @@ pub fn open_step(s: &[u8], m: Mode, class: usize, next: usize) -> Step
     if class <= class::GEOCODE {
         return enter_step(m, state, class, next);
     }
-    text_step(s, m, state, class, next)
+    text_step(s, m, test, state, class, next)
 }
 
 // The empty tag of an element of a class, which ends before an offset.

@@ -20,18 +20,19 @@ ghost use lib.ListN.{length};
 ghost use Rattle.xml_tags.specs.Tags.{tail};
 ghost use Rattle.xml_tags.specs.Attributes.{nameSpace};
 ghost use Rattle.document.specs.Tags.{otherStep, boundStep, alertStep, isAlert, startStep, closeStep, isRightEnd, endStep, tagStep};
+ghost use Rattle.document.specs.Tested.{testedUnless};
 
 // ---- start tags
 
 // A start tag other than the alert's, whose name ends at n.
-fn other_step(s: &[u8], m: Mode, n: usize) -> Step
+fn other_step(s: &[u8], m: Mode, test: bool, n: usize) -> Step
     requires { ⌜ m .at < length (now s) ⌝ }
-    ensures { λ r. ⌜ r ≡ otherStep (now (s .entry)) m n (tail (now (s .entry)) n) ⌝ }
+    ensures { λ r. ⌜ testedUnless test (now (s .entry)) r ≡ otherStep (now (s .entry)) m n (tail (now (s .entry)) n) ⌝ }
 {
     let tail = xml_tags::ends::read_tail(s, n);
     let class = schema::names::class_of(name_in(s, m, m.at + 1, n));
     match tail {
-        Tail::Open(next) => open_step(s, m, class, next),
+        Tail::Open(next) => open_step(s, m, test, class, next),
         Tail::Empty(next) => empty_step(m, class, next),
         Tail::Fault => Step::Refused(15, m.at),
     }
@@ -83,9 +84,9 @@ fn is_alert(s: &[u8], m: Mode, n: usize) -> bool
 }
 
 // A start tag whose name ends at n.
-fn start_step(s: &[u8], m: Mode, n: usize) -> Step
+fn start_step(s: &[u8], m: Mode, test: bool, n: usize) -> Step
     requires { ⌜ m .at < length (now s) ⌝ }
-    ensures { λ r. ⌜ r ≡ startStep (now (s .entry)) m n ⌝ }
+    ensures { λ r. ⌜ testedUnless test (now (s .entry)) r ≡ startStep (now (s .entry)) m n ⌝ }
 {
     if (n == m.at + 1) | (m.state == modes::OVER) {
         return Step::Refused(15, m.at);
@@ -93,7 +94,7 @@ fn start_step(s: &[u8], m: Mode, n: usize) -> Step
     if is_alert(s, m, n) {
         return alert_step(s, m, n);
     }
-    other_step(s, m, n)
+    other_step(s, m, test, n)
 }
 
 // ---- end tags
@@ -145,9 +146,9 @@ fn end_step(s: &[u8], m: Mode, n: usize) -> Step
 // ---- any tag
 
 // The tag at the mode's offset. A name holds no quote, so the tag's end is looked for after it.
-pub fn tag_step(s: &[u8], m: Mode) -> Step
+pub fn tag_step(s: &[u8], m: Mode, test: bool) -> Step
     requires { ⌜ m .at < length (now s) ⌝ }
-    ensures { λ r. ⌜ r ≡ tagStep (now (s .entry)) m ⌝ }
+    ensures { λ r. ⌜ testedUnless test (now (s .entry)) r ≡ tagStep (now (s .entry)) m ⌝ }
 {
     let is_end = text::starts_at(s, m.at, b"</");
     let n = xml_tags::ends::name_end(s, m.at + 1 + is_end as usize);
@@ -157,7 +158,7 @@ pub fn tag_step(s: &[u8], m: Mode) -> Step
             if is_end {
                 return end_step(s, m, n);
             }
-            start_step(s, m, n)
+            start_step(s, m, test, n)
         }
         TagEnd::Unended => Step::Refused(15, s.len()),
     }

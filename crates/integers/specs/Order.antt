@@ -1,6 +1,6 @@
 -- The order of integers: at most and less, and the sign of a difference.
 use mathlib.Core.Path.{_≡_, refl, ap, _∙_}
-use mathlib.Core.Bool.{Bool, true, false, cond, not}
+use mathlib.Core.Bool.{Bool, true, false, cond, not, false≢true}
 use Prim.Native.Nat.{ℕ, zero, suc, zero-le, _+_, _-_}
 use native.Mathlib.Nat.{add-zero}
 use native.Mathlib.Omega.{arith}
@@ -22,6 +22,13 @@ le-not-less (pos m) (pos n) = le-not-lt m n
 le-not-less (pos m) (negsuc n) = refl
 le-not-less (negsuc m) (pos n) = refl
 le-not-less (negsuc m) (negsuc n) = le-not-lt n m
+
+-- of two integers at most one is less
+pub less-one-way : (a b : ℤ) → ltZ a b ≡ true → ltZ b a ≡ false
+less-one-way (pos m) (pos n) e = le-ltb n m (omega (arith, ltb-true m n e))
+less-one-way (pos m) (negsuc n) e = absurd (false≢true e)
+less-one-way (negsuc m) (pos n) e = refl
+less-one-way (negsuc m) (negsuc n) e = le-ltb m n (omega (arith, ltb-true n m e))
 
 -- ---- the sign of a difference
 

@@ -1,4 +1,5 @@
 pub mod Lookups
 pub mod Keeping
+pub mod Sights
 pub mod Meant
 pub mod Durations

@@ -1,17 +1,24 @@
 -- What is kept while a document is read: the same facts, gathered element by element. The laws in
 -- proofs/ show that they are those of the definitions.
-use mathlib.Core.Bool.{false, cond, _&&_, _||_}
+use mathlib.Core.Bool.{Bool, true, false, cond, _&&_, _||_}
 use mathlib.Core.List.{List}
 use Prim.Native.Nat.{ℕ, _-_}
 use lib.Dec.{eqb, leb, ltb}
 use lib.ListN.{getD, set, replicate}
+use Rattle.text.specs.Answers.{Answer}
 use Rattle.sheet.specs.declared.Span.{Span}
 use Rattle.coordinates.specs.declared.Place.{Place}
+use Rattle.polygon.specs.Polygon.{polygonHolds}
+use Rattle.circle.specs.Circle.{circleHolds}
 use Rattle.schema.specs.Classes as class
+use Rattle.document.specs.declared.Event.{Event}
 use Rattle.document.specs.Elements.{Element, opened, text, closed, answer}
 use Rattle.document.specs.Documents.{documentOf}
+use Rattle.document.specs.Tested.{eventRule, textStart}
 use Rattle.parts.specs.declared.Facts.{Facts}
 use Rattle.parts.specs.declared.Shapes.{Shapes}
+use Rattle.parts.specs.declared.Sight.{Sight}
+use Rattle.parts.specs.declared.Sight.the-variants as sight
 use Rattle.parts.specs.declared.Outcome.the-variants as outcome
 use Rattle.parts.specs.declared.Reading.{Reading}
 use Rattle.parts.specs.declared.View.{View}
@@ -72,6 +79,22 @@ looked p f (closed c) = f
 -- an element, where k infos have started
 abbrev pub seen : ℕ → Place → ℕ → Shapes → Element → Shapes
 seen n p k f x = cond (eqb k n) (looked p f x) f
+
+-- what is seen after a text that starts at an offset, by the number that its rule gives
+abbrev pub sightBy : (number from : ℕ) → Shapes → Sight
+sightBy number from f = cond (eqb number 0) (sight.Seen f) (sight.Refused number from)
+
+-- after an event that leads to f
+abbrev pub sightOf : List ℕ → Event → Shapes → Sight
+sightOf l e f = sightBy (eventRule l e) (textStart e) f
+
+-- whether the shape that a text of a class writes holds a place; a class that is no polygon's is taken for a circle's
+abbrev pub shapeAnswer : Place → ℕ → List ℕ → Answer Bool
+shapeAnswer p c t = cond (eqb c class.polygon) (polygonHolds t p) (circleHolds t p)
+
+-- a shape after none that holds the place
+abbrev pub shapeSeen : Place → ℕ → List ℕ → Shapes
+shapeSeen p c t = record { any = true; inside = shapeHolds p c t }
 
 abbrev pub noShapes : Shapes
 noShapes = record { any = false; inside = false }

@@ -2,6 +2,7 @@
 use crate::CapPlace;
 use crate::Lookup;
 use crate::Shapes;
+use crate::Sight;
 use crate::View;
 use coordinates::Inclusion;
 use coordinates::Place;
@@ -9,72 +10,92 @@ use document::Event;
 use document::Step;
 use schema::class;
 ghost use mathlib.Core.Path.{_≡_};
+ghost use mathlib.Core.Bool.{true, cond};
 ghost use Rattle.text.specs.Answers.{gives};
 ghost use Rattle.coordinates.specs.Answers.{inclusionAnswer};
 ghost use Rattle.document.specs.Elements.{fold};
 ghost use Rattle.document.specs.Documents.{elementsOf};
-ghost use Rattle.parts.specs.Places.{isInside, shapeHolds, sideOf, placedInPart, placeAnswer};
-ghost use Rattle.parts.specs.Gathering.{seenText, seen, viewOf};
+ghost use Rattle.rules.specs.Texts.{textRule};
+ghost use Rattle.parts.specs.Places.{isShape, sideOf, placedInPart, placeAnswer};
+ghost use Rattle.parts.specs.Gathering.{shapeAnswer, shapeSeen, seenText, seen, sightBy, sightOf, viewOf};
 
-// Whether a shape said that it holds the place.
-fn is_inside(inclusion: Inclusion) -> bool
-    ensures { λ r. ⌜ r ≡ isInside (inclusionAnswer inclusion) ⌝ }
-{
-    match inclusion {
-        Inclusion::Inside => true,
-        Inclusion::Outside => false,
-        Inclusion::Fault => false,
-    }
-}
-
-// Whether the text of a class is a shape that holds a place.
-fn shape_holds(place: Place, class: usize, t: &[u8]) -> bool
-    ensures { λ r. ⌜ r ≡ shapeHolds place class (now (t .entry)) ⌝ }
+// Whether the shape that a text of a class writes holds a place. A class that is no polygon's is taken for a circle's.
+fn shape_answer(place: Place, class: usize, t: &[u8]) -> Inclusion
+    ensures { λ r. ⌜ inclusionAnswer r ≡ shapeAnswer place class (now (t .entry)) ⌝ }
 {
     if class == class::POLYGON {
-        return is_inside(polygon::polygon_holds(t, place));
+        return polygon::polygon_holds(t, place);
     }
-    if class == class::CIRCLE {
-        return is_inside(circle::circle_holds(t, place));
-    }
-    false
+    circle::circle_holds(t, place)
 }
 
-// A text of the part: a shape after one that holds the place isn't looked at.
-fn see_text(place: Place, f: Shapes, class: usize, t: &[u8]) -> Shapes
-    ensures { λ r. ⌜ r ≡ seenText place f class (now (t .entry)) ⌝ }
+// What is seen after a text that starts at an offset, by the number that its rule gives.
+fn sight_by(number: u8, from: usize, f: Shapes) -> Sight
+    ensures { λ r. ⌜ r ≡ sightBy number from f ⌝ }
 {
-    let any = f.any | (class == class::POLYGON) | (class == class::CIRCLE);
-    if !f.inside {
-        return Shapes {
-            any: any,
-            inside: shape_holds(place, class, t),
-        };
+    if number == 0 {
+        return Sight::Seen(f);
     }
-    Shapes {
-        any: any,
-        inside: true,
+    Sight::Refused(number, from)
+}
+
+// A shape of the part, before which none holds the place: one reading of its text tests its rule and asks about the place.
+fn see_shape(place: Place, class: usize, from: usize, t: &[u8]) -> Sight
+    requires { ⌜ isShape class ≡ true ⌝ }
+    ensures { λ r. ⌜ r ≡ sightBy (textRule class (now (t .entry))) from (shapeSeen place class (now (t .entry))) ⌝ }
+{
+    let inclusion = shape_answer(place, class, t);
+    match inclusion {
+        Inclusion::Inside => Sight::Seen(Shapes {
+            any: true,
+            inside: true,
+        }),
+        Inclusion::Outside => Sight::Seen(Shapes {
+            any: true,
+            inside: false,
+        }),
+        Inclusion::Fault => Sight::Refused(22, from),
     }
 }
 
-// What an event shows of a part, where some infos have started: a text of the part is looked at, a shape only if none before it holds the place.
-fn see(s: &[u8], part: usize, place: Place, infos: usize, f: Shapes, event: Event) -> Shapes
-    ensures { λ r. ⌜ r ≡ fold (seen part place infos) f (elementsOf (now (s .entry)) event) ⌝ }
+// A text that starts at an offset, of the part or not. A shape after one that holds the place isn't asked about the place.
+fn see_text(asked: bool, place: Place, f: Shapes, class: usize, from: usize, t: &[u8]) -> Sight
+    ensures { λ r. ⌜ r ≡ sightBy (textRule class (now (t .entry))) from (cond asked (seenText place f class (now (t .entry))) f) ⌝ }
+{
+    let shape = asked & ((class == class::POLYGON) | (class == class::CIRCLE));
+    if shape & !f.inside {
+        return see_shape(place, class, from, t);
+    }
+    sight_by(
+        rules::text_rule(class, t),
+        from,
+        Shapes {
+            any: f.any | shape,
+            inside: f.inside,
+        },
+    )
+}
+
+// What an event shows of a part, where some infos have started, or the refusal of its text.
+fn see(s: &[u8], part: usize, place: Place, infos: usize, f: Shapes, event: Event) -> Sight
+    ensures { λ r. ⌜ r ≡ sightOf (now (s .entry)) event (fold (seen part place infos) f (elementsOf (now (s .entry)) event)) ⌝ }
 {
     match event {
-        Event::Silent => f,
-        Event::Opened(class, at) => f,
-        Event::Text(class, from, until) => {
-            if infos != part {
-                return f;
-            }
-            see_text(place, f, class, text::part(s, from, until))
-        }
-        Event::Closed(class) => f,
+        Event::Silent => Sight::Seen(f),
+        Event::Opened(class, at) => Sight::Seen(f),
+        Event::Text(class, from, until) => see_text(
+            infos == part,
+            place,
+            f,
+            class,
+            from,
+            text::part(s, from, until),
+        ),
+        Event::Closed(class) => Sight::Seen(f),
     }
 }
 
-// Reads a document: what the shapes of a part say of a place.
+// Reads a document: what the shapes of a part say of a place. Each shape's text is read once, also where it is asked about the place.
 pub fn read_shapes(s: &[u8], part: usize, place: Place) -> View
     ensures { λ r. ⌜ r ≡ viewOf part place (now (s .entry)) ⌝ }
 {
@@ -88,8 +109,16 @@ pub fn read_shapes(s: &[u8], part: usize, place: Place) -> View
         match step {
             Step::Next(m, event) => {
                 infos = m.infos;
-                f = see(s, part, place, infos, f, event);
-                step = document::constructs::take_step(s, m);
+                let sight = see(s, part, place, infos, f, event);
+                match sight {
+                    Sight::Seen(shapes) => {
+                        f = shapes;
+                        step = document::constructs::read_step(s, m);
+                    }
+                    Sight::Refused(number, at) => {
+                        return View::Refused(number, at);
+                    }
+                }
             }
             Step::Done => {
                 return View::Accepted(infos, f);

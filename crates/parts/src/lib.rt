@@ -29,6 +29,12 @@ pub struct Shapes {
     pub inside: bool,
 }
 
+// What was seen of the shapes up to a construct, or the refusal of its text (number, offset).
+pub enum Sight {
+    Seen(Shapes),
+    Refused(u8, usize),
+}
+
 // Whether the part asked for is there; part 0 is, where there are no parts.
 pub enum Lookup {
     There(usize),

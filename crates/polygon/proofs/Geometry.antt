@@ -11,6 +11,7 @@ use Rattle.coordinates.specs.declared.Place.{Place}
 use Rattle.polygon.specs.declared.edges.Tally.{Tally}
 use Rattle.polygon.specs.Polygon.{same, samePlace, between, eastOf, northOf, onEdge, crosses}
 use Rattle.polygon.specs.Edges.{inBox, crossedBy, edgeOf}
+use Rattle.polygon.specs.Skips.{onOneSide, isSkipped}
 use Rattle.polygon.proofs.Signs.{same-is}
 
 -- the range of a coordinate, as a struct's field has it
@@ -36,6 +37,11 @@ module _ (a b p : Place) where
       → t ≡ between (read w32 (a .lon)) (read w32 (b .lon)) (read w32 (p .lon))
       → Low (a .lat) → Low (b .lat) → Low (p .lat) → Low (a .lon) → Low (b .lon) → Low (p .lon) → s && t ≡ inBox a b p
   box-is s t es et h₁ h₂ h₃ h₄ h₅ h₆ = rw (es, et) (simp (read-given w32))
+
+  pub skipped-is :
+      (s : Bool) → s ≡ onOneSide (read w32 (a .lat)) (read w32 (b .lat)) (read w32 (p .lat)) → Low (a .lat) → Low (b .lat) → Low (p .lat)
+      → s ≡ isSkipped a b p
+  skipped-is s e h₁ h₂ h₃ = e ∙ simp (read-given w32)
 
   pub counted :
       (u v : ℤ) (less more box crossed : Bool) → u ≡ eastOf a b p → v ≡ northOf a b p → less ≡ ltZ u v → more ≡ ltZ v u → box ≡ inBox a b p

@@ -12,8 +12,8 @@ use lib.ListN.{length, drop}
 use mir.Val.{boolByte}
 use types.Run.{OneOf}
 use denote.Enum.Declared.{tagOf}
-use Rattle.text.specs.Answers.{Answer, gives, refuses, andThen, giving, isGiven}
-use Rattle.text.specs.Logic.{by-test, cond-cases, or-false, or-assoc}
+use Rattle.text.specs.Answers.{Answer, gives, refuses, andThen, giving, isGiven, answerNumber}
+use Rattle.text.specs.Logic.{by-test, cond-cases}
 use Rattle.text.specs.Tokens.{tokens}
 use Rattle.coordinates.specs.declared.Place.{Place}
 use Rattle.coordinates.specs.Place.{pairOf}
@@ -21,23 +21,17 @@ use Rattle.coordinates.proofs.Readers.{pair-cases}
 use Rattle.polygon.specs.declared.edges.Tally.{Tally}
 use Rattle.polygon.specs.declared.pairs.Next.{Next}
 use Rattle.polygon.specs.declared.pairs.Next.the-variants as next
-use Rattle.polygon.specs.Polygon.{placesOf, samePlace, lastOf, isClosed, isRing, polygonOf, isPolygon, crosses, onRing, crossings, inRing}
+use Rattle.polygon.specs.Polygon.{placesOf, samePlace, lastOf, isClosed, isRing, polygonOf, isPolygon, crosses, onRing, crossings, inRing, polygonHolds}
 use Rattle.polygon.specs.Edges.{edgeOf, plusOf, tallied}
 use Rattle.polygon.specs.Next.{nextOf}
 use Rattle.polygon.specs.Ring.{closes, verdictOf, answerOf}
 use Rattle.polygon.proofs.pairs.Next.{the-type}
+use Rattle.polygon.proofs.Tallies.{none, xor-false, plus-none, plus-assoc}
 use Rattle.polygon.proofs.Tokens.{says}
-
-abbrev none : Tally
-none = record { on = false; crossed = false }
 
 -- what a ring says
 abbrev ringSays : List Place → Place → Tally
 ringSays l p = record { on = onRing l p; crossed = eqb (crossings l p % 2) 1 }
-
-xor-false : (t : Bool) → not (Bool·beq false t) ≡ t
-xor-false true = refl
-xor-false false = refl
 
 odd-add : (t : Bool) (n : ℕ) → not (Bool·beq t (eqb (n % 2) 1)) ≡ eqb ((boolByte t + n) % 2) 1
 odd-add false n = rw (zero-add n) (xor-false (eqb (n % 2) 1))
@@ -45,19 +39,6 @@ odd-add true n =
     by-test (eqb (n % 2) 1)
     (λ e. let k = eqb-true (n % 2) 1 e in rw (e, ne-eqb ((1 + n) % 2) 1 (λ f. omega arith)))
     (λ e. let k : n % 2 ≡ 0 = omega (arith, eqb-false (n % 2) 1 e) in rw (e, eq-eqb ((1 + n) % 2) 1 (omega arith)))
-
-xor-assoc : (r s t : Bool) → not (Bool·beq (not (Bool·beq r s)) t) ≡ not (Bool·beq r (not (Bool·beq s t)))
-xor-assoc true true true = refl
-xor-assoc true true false = refl
-xor-assoc true false true = refl
-xor-assoc true false false = refl
-xor-assoc false true true = refl
-xor-assoc false true false = refl
-xor-assoc false false true = refl
-xor-assoc false false false = refl
-
-plus-assoc : (a b c : Tally) → plusOf (plusOf a b) c ≡ plusOf a (plusOf b c)
-plus-assoc a b c = rw (or-assoc (a .on) (b .on) (c .on), xor-assoc (a .crossed) (b .crossed) (c .crossed))
 
 -- ---- the edges
 
@@ -73,11 +54,7 @@ ring-none p a sum (b ∷ l) = ring-none p b sum l
 
 ring-all : (p a : Place) (sum : Tally) (l : List Place) → ringWith true p a sum l ≡ plusOf sum (ringSays (a ∷ l) p)
 unfolding ringWith onRing crossings
-ring-all p a sum [] = rw (or-false (sum .on), xor-none (sum .crossed))
-  where
-    xor-none : (t : Bool) → not (Bool·beq t false) ≡ t
-    xor-none true = refl
-    xor-none false = refl
+ring-all p a sum [] = sym (plus-none sum)
 ring-all p a sum (b ∷ l) =
     ring-all p b (plusOf sum (edgeOf a b p)) l
     ∙ plus-assoc sum (edgeOf a b p) (ringSays (b ∷ l) p)
@@ -197,3 +174,8 @@ polygon-cases l P f g =
     places-cases (tokens l) (λ a. P (andThen a (λ ring. cond (isRing ring) (gives ring) (refuses 22 0))))
     (λ ring. cond-cases P (isRing ring) (gives ring) (refuses 22 0) (λ t. f ring) (λ t. g))
     g
+
+-- a text that is asked about a place is refused just as it is where it is read
+pub holds-number : (l : List ℕ) (p : Place) → answerNumber (polygonHolds l p) ≡ answerNumber (polygonOf l)
+unfolding polygonHolds
+holds-number l p = polygon-cases l (λ a. answerNumber (giving (λ ring. inRing ring p) a) ≡ answerNumber a) (λ ring. refl) refl

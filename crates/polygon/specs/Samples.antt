@@ -1,4 +1,4 @@
--- Worked samples: which texts are polygons, and places about a square and a triangle.
+-- Worked samples: which texts are polygons, places about a square and a triangle, and which edges are skipped.
 use mathlib.Core.Path.{_≡_, refl}
 use mathlib.Core.Bool.{true, false}
 use mathlib.Core.List.{List}
@@ -12,6 +12,7 @@ use Rattle.coordinates.specs.declared.Place.{Place}
 use Rattle.coordinates.specs.Decimal.{leads, places, fraction, decimalLength, isDecimal, scaled}
 use Rattle.coordinates.specs.Place.{coordinateAt, pairOf}
 use Rattle.polygon.specs.Polygon.{placesOf, lastOf, isClosed, polygonOf, isPolygon, eastOf, northOf, onEdge, crosses, onRing, crossings, inRing, polygonHolds}
+use Rattle.polygon.specs.Skips.{isSkipped}
 
 abbrev pub square : List ℕ
 square = ascii "0,0 0,10 10,10 10,0 0,0"
@@ -59,3 +60,16 @@ pub held :
 unfolding polygonHolds inRing onRing crossings onEdge crosses eastOf northOf polygonOf placesOf isClosed lastOf pairOf coordinateAt scaled
     fraction places decimalLength isDecimal leads numberFrom tokens onToken longer
 held = (refl, refl, refl, refl, refl, refl, refl, refl, refl, refl, refl, refl, refl, refl)
+
+-- A place at 0,0. Edges a unit above its latitude and a unit below are skipped, one from below to above isn't. Nor are those that touch the latitude from
+-- one side: the one from above counts east of the place, and those from above and from below hold the place at their end.
+pub skipped :
+    (isSkipped (units (pos 1) (pos 5)) (units (pos 1) (negℤ (pos 5))) (units (pos 0) (pos 0)) ≡ true)
+    × (isSkipped (units (negℤ (pos 1)) (pos 5)) (units (negℤ (pos 9)) (pos 5)) (units (pos 0) (pos 0)) ≡ true)
+    × (isSkipped (units (negℤ (pos 1)) (pos 5)) (units (pos 1) (pos 5)) (units (pos 0) (pos 0)) ≡ false)
+    × (isSkipped (units (pos 0) (pos 5)) (units (pos 9) (pos 5)) (units (pos 0) (pos 0)) ≡ false)
+    × (crosses (units (pos 0) (pos 5)) (units (pos 9) (pos 5)) (units (pos 0) (pos 0)) ≡ true)
+    × (onEdge (units (pos 9) (pos 5)) (units (pos 0) (pos 0)) (units (pos 0) (pos 0)) ≡ true)
+    × (onEdge (units (negℤ (pos 9)) (pos 5)) (units (pos 0) (pos 0)) (units (pos 0) (pos 0)) ≡ true)
+unfolding onEdge crosses eastOf northOf
+skipped = (refl, refl, refl, refl, refl, refl, refl)

@@ -6,6 +6,7 @@ ghost use lib.Signed.{ltZ};
 ghost use Rattle.integers.specs.Magnitude.{lessBy};
 ghost use Rattle.polygon.specs.Polygon.{between, eastOf, northOf};
 ghost use Rattle.polygon.specs.Edges.{valueOf, inBox, crossedBy, edgeOf, plusOf, tallied};
+ghost use Rattle.polygon.specs.Skips.{onOneSide};
 
 // A product by its sign and magnitude.
 struct Product {
@@ -102,11 +103,22 @@ fn plus(a: Tally, b: Tally) -> Tally
     Tally { on, crossed }
 }
 
-// The sum of what edges say of the place p, with the edge from a to b; the same sum where no edge is counted.
+// Whether the latitudes a and b both lie above z, or both below it.
+fn on_one_side(a: i32, b: i32, z: i32) -> bool
+    ensures { λ r. ⌜ r ≡ onOneSide a b z ⌝ }
+{
+    ((z < a) & (z < b)) | ((a < z) & (b < z))
+}
+
+// The sum of what edges say of the place p, with the edge from a to b; the same sum where no edge is counted. An edge with both ends on one side of
+// the place's latitude adds nothing, so that it is skipped before any product is formed.
 pub fn add_edge(counted: bool, sum: Tally, a: Place, b: Place, p: Place) -> Tally
     ensures { λ r. ⌜ r ≡ tallied counted p sum a b ⌝ }
 {
     if !counted {
+        return sum;
+    }
+    if on_one_side(a.lat, b.lat, p.lat) {
         return sum;
     }
     plus(sum, edge_of(a, b, p))

@@ -54,7 +54,7 @@ polygon-number t = polygon-cases t (λ a. Listed (answerNumber a)) (λ ring. kep
 
 circle-number : (t : List ℕ) → Listed (circleRule t)
 unfolding circleRule
-circle-number t = circle-cases t (λ a. Listed (answerNumber a)) (λ c m. kept) (hit ruleNumbers 22 tt)
+circle-number t = circle-cases t (λ a. Listed (answerNumber a)) (λ c m h. kept) (hit ruleNumbers 22 tt)
 
 pub rule-numbers : (c : ℕ) (t : List ℕ) → OneOf ruleNumbers (textRule c t)
 unfolding textRule
