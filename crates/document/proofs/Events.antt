@@ -1,6 +1,6 @@
 -- What holds of every step: where it goes on, what its event says of the schema and of a text, or where it refuses. One walk along a step's cases.
 use mathlib.Core.Path.{_≡_, refl, sym, ap, subst}
-use mathlib.Core.Bool.{Bool, true, false, cond, not, _||_, false≢true}
+use mathlib.Core.Bool.{Bool, true, false, cond, not, _||_}
 use mathlib.Core.List.{List, []}
 use Prim.Native.Nat.{ℕ, zero, suc, _+_, _≤_, _<_}
 use Prim.Native.Char.{code}
@@ -9,7 +9,7 @@ use borrow.Author.Tests.{leb-true, leb-false, eqb-true, eqb-false, not-false}
 use lib.Dec.{eqb, leb}
 use lib.ListN.{length, getD, drop}
 use Rattle.text.specs.Ascii.{ascii}
-use Rattle.text.specs.Logic.{cond-cases, and-left, eql}
+use Rattle.text.specs.Logic.{cond-cases, and-left, or-none, eql}
 use Rattle.text.specs.Parts.{startsWith, part}
 use Rattle.text.proofs.Parts.{part-none}
 use Rattle.xml_tags.specs.declared.TagEnd.{TagEnd}
@@ -85,10 +85,6 @@ SoundStep l m Done = m .state ≡ over
 SoundStep l m (Refused n p) = Refusal l n p
 
 -- ---- the walk
-
-pub or-none : (a b : Bool) → a || b ≡ false → (a ≡ false) × (b ≡ false)
-or-none true b e = absurd (false≢true (sym e))
-or-none false b e = (refl, e)
 
 -- an element that is not misplaced
 pub record Placed (m : Mode) (c : ℕ) : Type 0 where

@@ -9,7 +9,7 @@ use borrow.Author.Tests.{eqb-true, eqb-false, ne-eqb}
 use lib.Dec.{eqb, leb}
 use lib.ListN.{length, getD, drop}
 use Rattle.text.specs.Ascii.{ascii}
-use Rattle.text.specs.Logic.{by-test, cond-cases, and-left, eql}
+use Rattle.text.specs.Logic.{by-test, cond-cases, and-left, eql, or-none}
 use Rattle.text.specs.Parts.{startsWith, part}
 use Rattle.xml_tags.specs.declared.TagEnd.{TagEnd}
 use Rattle.xml_tags.specs.declared.TagEnd.the-variants.{At, Unended}
@@ -37,7 +37,7 @@ use Rattle.document.specs.declared.Step.the-variants.{Next, Done, Refuse
 use Rattle.document.specs.Tags.{moved, maxInfos, afterPrefix, nameIn, ruled, textStep, enterStep, isMisplaced, openStep, emptyStep, otherStep, boundStep, alertStep, isAlert, startStep, closeStep, isRightEnd, endStep, endedStep, tagEndStep, tagStep}
 use Rattle.document.specs.Constructs.{commentStep, stopStep, constructStep, afterSpace, stepOf}
 use Rattle.document.specs.Following.{inState}
-use Rattle.document.proofs.Events.{stateAfter, Placed, placed, or-none, onward}
+use Rattle.document.proofs.Events.{stateAfter, Placed, placed, onward}
 
 -- a state allows the element of an event
 abbrev pub Allows : ℕ → Event → Type 0

@@ -81,7 +81,7 @@ fn is_crossed(a: i32, b: i32, z: i32, less: bool, more: bool) -> bool
     ((a <= z) & (z < b) & less) | ((b <= z) & (z < a) & more)
 }
 
-// What the edge from a to b says of the place p.
+// What the edge from a to b says of the place p: off the line through a and b it isn't on the edge, and on that line the edge doesn't cross strictly east.
 fn edge_of(a: Place, b: Place, p: Place) -> Tally
     ensures { λ r. ⌜ r ≡ edgeOf a b p ⌝ }
 {
@@ -89,9 +89,12 @@ fn edge_of(a: Place, b: Place, p: Place) -> Tally
     let north = north_of(a, b, p);
     let less = is_less(east, north);
     let more = is_less(north, east);
-    let on = !less & !more & in_box(a, b, p);
-    let crossed = is_crossed(a.lat, b.lat, p.lat, less, more);
-    Tally { on, crossed }
+    if less | more {
+        let crossed = is_crossed(a.lat, b.lat, p.lat, less, more);
+        return Tally { on: false, crossed };
+    }
+    let on = in_box(a, b, p);
+    Tally { on, crossed: false }
 }
 
 // What edges a and edges b say together: on either of them, and an odd number of crossings.

@@ -28,6 +28,10 @@ pub and-right : (a b : Bool) → a && b ≡ true → b ≡ true
 and-right true b e = e
 and-right false b e = absurd (false≢true e)
 
+pub or-none : (a b : Bool) → a || b ≡ false → (a ≡ false) × (b ≡ false)
+or-none true b e = absurd (false≢true (sym e))
+or-none false b e = (refl, e)
+
 pub or-false : (b : Bool) → b || false ≡ b
 or-false true = refl
 or-false false = refl
