@@ -30,7 +30,7 @@ tested l (Next m e) = cond (eqb (eventRule l e) 0) (Next m e) (Refused (eventRul
 tested l Done = Done
 tested l (Refused n p) = Refused n p
 
--- tested here, unless it was when it was read
+-- the same, where a flag says whether the rule was tested when the step was read
 abbrev pub testedUnless : Bool → List ℕ → Step → Step
 testedUnless true l r = r
 testedUnless false l r = tested l r

@@ -18,9 +18,9 @@ use Rattle.polygon.proofs.Signs.{same-is}
 abbrev Low : ℤ → Type 0
 Low z = mag z < 2_147_483_648
 
-not-both : (s t : Bool) → s || t ≡ true → not s && not t ≡ false
-not-both true t e = refl
-not-both false t e = rw e
+not-neither : (s t : Bool) → s || t ≡ true → not s && not t ≡ false
+not-neither true t e = refl
+not-neither false t e = rw e
 
 module _ (a b p : Place) where
   module _ (v : ℤ) where
@@ -60,7 +60,7 @@ module _ (a b p : Place) where
         → Low (a .lat) → Low (b .lat) → Low (p .lat) → _≡_ {A = Tally} (record { on = false; crossed = crossed }) (edgeOf a b p)
     off-line crossed o ec ha hb hp =
         let ec′ : crossed ≡ crossedBy (a .lat) (b .lat) (p .lat) less more = ec ∙ simp (read-given w32) in
-        rw ec′ (rw (not-both less more o) at edge-is)
+        rw ec′ (rw (not-neither less more o) at edge-is)
 
     -- on it
     pub on-line : (box : Bool) → less || more ≡ false → box ≡ inBox a b p → _≡_ {A = Tally} (record { on = box; crossed = false }) (edgeOf a b p)
