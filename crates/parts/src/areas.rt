@@ -95,7 +95,8 @@ fn see(s: &[u8], part: usize, place: Place, infos: usize, f: Shapes, event: Even
     }
 }
 
-// Reads a document: what the shapes of a part say of a place. Each shape's text is read once, also where it is asked about the place.
+// Reads a document: what the shapes of a part say of a place. The steps' texts are tested here, by `see`, so that a shape's text is read once for its
+// rule and for the place.
 pub fn read_shapes(s: &[u8], part: usize, place: Place) -> View
     ensures { λ r. ⌜ r ≡ viewOf part place (now (s .entry)) ⌝ }
 {
