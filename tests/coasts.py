@@ -1,5 +1,5 @@
 #!/usr/bin/env python3
-"""Writes documents whose polygon has thousands of pairs, many of them exactly at the latitude of the places that are asked about: coasts.py FOLDER.
+"""Writes documents whose polygon has thousands of edges that start or end exactly at the latitude of the asked places, or cross it: coasts.py FOLDER.
 
 FOLDER/places.txt has a line for each question, as tests/places.txt has: document, latitude, longitude and the answer of
 tests/model/model02.py, which looks at every edge.
