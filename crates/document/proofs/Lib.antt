@@ -1,6 +1,7 @@
 pub mod Numbers
 pub mod Events
 pub mod Runs
+pub mod Steps
 pub mod Tested
 pub mod Loops
 pub mod Accepted
@@ -10,4 +11,3 @@ pub mod Nesting
 pub mod OtherStates
 pub mod Exact
 pub mod Prefixes
-pub mod Steps

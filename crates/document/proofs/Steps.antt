@@ -1,9 +1,11 @@
 -- What functions of tags and texts answer: by the number that a rule gives, and by a tag's end that is looked for after its name.
 use mathlib.Core.Path.{_≡_, refl, sym, ap, _∙_}
-use mathlib.Core.Bool.{Bool, true, false}
+use mathlib.Core.Bool.{Bool, true, false, cond}
 use mathlib.Core.List.{List}
 use Prim.Native.Nat.{ℕ, zero, suc, _+_}
 use native.Mathlib.Omega.{arith}
+use borrow.Author.Tests.{ne-eqb}
+use lib.Dec.{eqb}
 use lib.ListN.{length, drop}
 use lib.Seq.{drop-drop}
 use mir.Val.{boolByte}
@@ -21,16 +23,13 @@ use Rattle.document.specs.declared.Step.{Step}
 use Rattle.document.specs.declared.Step.the-variants.{Next, Refused}
 use Rattle.document.specs.Tags.{moved, ruled, startStep, endStep, endedStep, tagStep}
 
--- ---- a text with the number that its rule gives
+-- ---- a text, by the number that its rule gives
 
-module _ (m : Mode) (state leaf c from until : ℕ) where
-  pub ruled-none : (k : ℕ) (r : Mode) → k ≡ 0 → r ≡ moved m until state leaf → Next r (Text c from until) ≡ ruled m state leaf c from until k
-  ruled-none zero r h e = ap (λ (x : Mode). Next x (Text c from until)) e
-  ruled-none (suc k) r h e = absurd (omega arith)
-
-  pub ruled-some : (k : ℕ) → (k ≡ 0 → ⊥) → Refused k from ≡ ruled m state leaf c from until k
-  ruled-some zero h = absurd (h refl)
-  ruled-some (suc k) h = refl
+pub ruled-is :
+    (m : Mode) (state leaf c from until number : ℕ)
+    → cond (eqb number 0) (Next (moved m until state leaf) (Text c from until)) (Refused number from) ≡ ruled m state leaf c from until number
+ruled-is m state leaf c from until zero = refl
+ruled-is m state leaf c from until (suc n) = rw (ne-eqb (suc n) 0 (λ e. omega arith))
 
 -- ---- a tag
 

@@ -4,7 +4,6 @@ use mathlib.Core.Bool.{Bool, true, false, cond, not, _||_}
 use mathlib.Core.List.{List, []}
 use Prim.Native.Nat.{ℕ, zero, suc, _+_}
 use native.Mathlib.Omega.{arith}
-use borrow.Author.Tests.{ne-eqb}
 use lib.Dec.{eqb, leb}
 use Rattle.text.specs.Logic.{cond-cases, eql}
 use Rattle.text.specs.Parts.{part}
@@ -21,26 +20,20 @@ use Rattle.rules.specs.Texts.{textRule}
 use Rattle.document.specs.declared.Mode.{Mode}
 use Rattle.document.specs.declared.Event.the-variants.{Text}
 use Rattle.document.specs.declared.Step.{Step}
-use Rattle.document.specs.declared.Step.the-variants.{Next, Refused}
+use Rattle.document.specs.declared.Step.the-variants.{Next}
 use Rattle.document.specs.Tags.{moved, ruled, maxInfos, enterStep, isMisplaced, emptyStep, afterPrefix, boundStep, alertStep, closeStep, isRightEnd, endStep}
 use Rattle.document.specs.Constructs.{commentStep, stopStep}
 use Rattle.document.specs.Documents.{firstStep}
 use Rattle.document.specs.Tested.{tested, testedUnless}
 use Rattle.document.proofs.Runs.{first-holds}
+use Rattle.document.proofs.Steps.{ruled-is}
 
 -- ---- a text
-
--- by the number that its rule gives
-by-number :
-    (m : Mode) (state leaf c from until number : ℕ)
-    → cond (eqb number 0) (Next (moved m until state leaf) (Text c from until)) (Refused number from) ≡ ruled m state leaf c from until number
-by-number m state leaf c from until zero = refl
-by-number m state leaf c from until (suc n) = rw (ne-eqb (suc n) 0 (λ e. omega arith))
 
 pub text-tested :
     (l : List ℕ) (m : Mode) (state leaf c from until : ℕ)
     → tested l (Next (moved m until state leaf) (Text c from until)) ≡ ruled m state leaf c from until (textRule c (part l from until))
-text-tested l m state leaf c from until = by-number m state leaf c from until (textRule c (part l from until))
+text-tested l m state leaf c from until = ruled-is m state leaf c from until (textRule c (part l from until))
 
 -- a text that was tested when it was read
 ruled-tested :
