@@ -1,5 +1,6 @@
 /* Reads a WARN packet from a file, shows what the signature chip needs, and receives it twice into an event table: the second time it is refused,
- * since its number isn't above the one that is stored. Then the table is swept.
+ * since its number isn't above the one that is stored. Then the running events are listed (a packet with the CANCEL flag leaves none), and the table is
+ * swept.
  *
  *     rt staticlib warnbox && cc -Iinclude examples/receipt.c target/staticlib/libwarnbox.a -o target/receipt
  *     xxd -r -p tests/vectors/warn-01-sample.hex > target/packet && target/receipt target/packet
@@ -13,6 +14,7 @@ enum { ENTRIES = 64 };
 
 static uint8_t bytes[WARNBOX_LONGEST_PACKET + 1]; /* a longer one is refused by its first bytes alone */
 static struct warnbox_entry entries[ENTRIES];     /* zeros: an empty table */
+static struct warnbox_event events[ENTRIES];      /* as many as the entries: room for every list */
 
 /* Prints a refusal, or what is said where there is none. */
 static void print_answer(uint8_t number, const char *otherwise) {
@@ -45,6 +47,14 @@ static void print_packet(const struct warnbox_packet *packet) {
     }
 }
 
+static void print_running(uint64_t time) {
+    size_t count = 0;
+    warnbox_running(events, ENTRIES, entries, ENTRIES, time, &count); /* with room for all entries there is no refusal */
+    printf("running at %" PRIu64 ":%s", time, count == 0 ? " nothing" : "");
+    for (size_t i = 0; i < count; i++) printf("%s event %" PRIu32 " of key %" PRIu32, i > 0 ? "," : "", events[i].event, events[i].key);
+    printf("\n");
+}
+
 int main(int argc, char **argv) {
     FILE *file = argc == 2 ? fopen(argv[1], "rb") : NULL;
     if (file == NULL) {
@@ -70,6 +80,8 @@ int main(int argc, char **argv) {
         print_answer(warnbox_receive(entries, ENTRIES, bytes, length, keys, 1, verified, clock), "accepted");
     }
 
+    print_running(packet.timestamp);
+    print_running(packet.expiry);
     size_t index = warnbox_find_event(entries, ENTRIES, packet.key, packet.event);
     if (index == ENTRIES) return 1; /* not accepted */
     printf("the event's entry: %zu, kept until %" PRIu64 "\n", index, entries[index].keep_until);

@@ -31,7 +31,7 @@ extern "C" {
 #endif
 
 /* Major times 10,000, minor times 100 and patch; warnbox_version gives that of the archive. */
-#define WARNBOX_VERSION 10201
+#define WARNBOX_VERSION 20000
 uint32_t warnbox_version(void);
 
 /* in bytes */
@@ -67,7 +67,8 @@ enum warnbox_refusal {
     WARNBOX_SENDER = 19,              /* a sender or identifier that is empty or has a forbidden byte */
     WARNBOX_NOT_THERE = 21,           /* no such part, sentence or name */
     WARNBOX_SHAPE = 22,               /* not a polygon or circle */
-    WARNBOX_NOT_READ_BACKS = 23       /* a text isn't whole read-backs, or a sheet has a fact out of range */
+    WARNBOX_NOT_READ_BACKS = 23,      /* a text isn't whole read-backs, or a sheet has a fact out of range */
+    WARNBOX_NO_ROOM_FOR_LIST = 24     /* the list has more than the room has places */
 };
 
 /* Writes a refusal's short name into a buffer from `start` on, without an end mark. *value: the offset after it. Refusals: 21 for a number that
@@ -223,6 +224,13 @@ struct warnbox_entry {
     uint16_t sequence;
     uint8_t cancelled;
     uint64_t keep_until;
+    uint64_t timestamp, expiry; /* of the last packet that was accepted, also where they are smaller than those before */
+};
+
+/* An event, by its key id and its number. */
+struct warnbox_event {
+    uint32_t key;
+    uint32_t event;
 };
 
 /* Receives a packet: `keys` are the key ids that are listened to, `verified` is the signature chip's verdict (not 0: verified), `clock` the time in
@@ -230,11 +238,21 @@ struct warnbox_entry {
 uint8_t warnbox_receive(struct warnbox_entry *entries, size_t entries_length, const uint8_t *packet, size_t packet_length,
                         const uint32_t *keys, size_t keys_length, uint8_t verified, uint64_t clock);
 
-/* Frees the used entries whose keep_until is below a time. */
+/* Frees the used entries whose keep_until is below a time. Nothing else of them is looked at, and nothing but `used` is written. */
 void warnbox_sweep(struct warnbox_entry *entries, size_t entries_length, uint64_t time);
 
-/* The index of an event's first used entry; entries_length where it has none. */
+/* The index of an event's first used entry; entries_length where it has none. The search ends at that entry. */
 size_t warnbox_find_event(const struct warnbox_entry *entries, size_t entries_length, uint32_t key, uint32_t event);
+
+/* Lists the events that are running at a time, in the order of the table: those whose first used entry isn't cancelled, with timestamp <= time and
+ * time < expiry. A later used entry of the same event never matters. The list takes the first places of `events`; what stands behind it stays. *value:
+ * how many there are. Refusals: 24 where there are more than events_length. Any time may be asked about, also a later one than warnbox_receive takes.
+ * A room of entries_length places always suffices, and then the entries are gone through once; where the room is shorter they are counted first.
+ * To go through them is one pass, and for each used entry that is uncancelled and within its times a search from the table's start for its event's
+ * first used entry, which ends at that entry at the latest. So where none runs it is one plain pass; at worst, where all do, the time grows with the square
+ * of the table's length. */
+uint8_t warnbox_running(struct warnbox_event *events, size_t events_length, const struct warnbox_entry *entries, size_t entries_length,
+                        uint64_t time, size_t *value);
 
 /* ---- the layouts that the archive is built for */
 
@@ -246,12 +264,16 @@ size_t warnbox_find_event(const struct warnbox_entry *entries, size_t entries_le
 #define WARNBOX_ASSERT(name, holds) typedef char warnbox_assert_##name[(holds) ? 1 : -1]
 #endif
 
-WARNBOX_ASSERT(entry_size, sizeof(struct warnbox_entry) == 24);
+WARNBOX_ASSERT(entry_size, sizeof(struct warnbox_entry) == 40);
 WARNBOX_ASSERT(entry_key, offsetof(struct warnbox_entry, key) == 4);
 WARNBOX_ASSERT(entry_event, offsetof(struct warnbox_entry, event) == 8);
 WARNBOX_ASSERT(entry_sequence, offsetof(struct warnbox_entry, sequence) == 12);
 WARNBOX_ASSERT(entry_cancelled, offsetof(struct warnbox_entry, cancelled) == 14);
 WARNBOX_ASSERT(entry_keep_until, offsetof(struct warnbox_entry, keep_until) == 16);
+WARNBOX_ASSERT(entry_timestamp, offsetof(struct warnbox_entry, timestamp) == 24);
+WARNBOX_ASSERT(entry_expiry, offsetof(struct warnbox_entry, expiry) == 32);
+WARNBOX_ASSERT(event_size, sizeof(struct warnbox_event) == 8);
+WARNBOX_ASSERT(event_event, offsetof(struct warnbox_event, event) == 4);
 /* a header that is only read for another processor, where size_t is smaller, is no error: there is no archive to link */
 WARNBOX_ASSERT(sheet_size, sizeof(size_t) != 8 || sizeof(struct warnbox_sheet) == 15 * 8);
 WARNBOX_ASSERT(sheet_facts, offsetof(struct warnbox_sheet, facts) == 8);

@@ -1,6 +1,6 @@
 #!/usr/bin/env bash
-# The library as C sees it: the header and the examples compile without a warning in every dialect, the examples print what is stored beside this
-# script, and no function takes more stack than the header says. Its last line is 'N passed, M failed'.
+# The library as C sees it: the header, the examples and the programs in c/ compile without a warning in every dialect, they print what is stored there,
+# and no function takes more stack than the header says. Its last line is 'N passed, M failed'.
 #
 #     rt staticlib warnbox && tests/c_interface.sh
 cd "$(dirname "$0")/.."
@@ -32,12 +32,18 @@ prints() {
     try "$program $*" diff "$expected" "$folder/printed"
 }
 
+# receives HEX-FILE EXPECTED-FILE: the example prints that of a packet
+receives() {
+    python3 -c 'import sys; sys.stdout.buffer.write(bytes.fromhex(open(sys.argv[1]).read()))' "$1" >"$folder/packet"
+    prints receipt "$2" "$folder/packet"
+}
+
 # ---- the compile matrix; for 32 bits without a C library, since the header needs none
 
 for compiler in gcc clang; do
     command -v "$compiler" >/dev/null || continue
     for dialect in c99 c11 c17; do
-        for source in tests/c/calls.c examples/sentence.c examples/receipt.c; do
+        for source in tests/c/calls.c tests/c/running.c examples/sentence.c examples/receipt.c; do
             try "$compiler $dialect" "$compiler" -std="$dialect" $warnings -Iinclude -fsyntax-only "$source"
         done
         try "$compiler $dialect, 32 bits" "$compiler" -m32 -ffreestanding -std="$dialect" $warnings -Iinclude -fsyntax-only tests/c/calls.c
@@ -53,14 +59,16 @@ try "calls on empty inputs" "$folder/calls"
 try "C++17, linked" g++ -x c++ -std=c++17 -O2 -Iinclude tests/c/calls.c -x none "$archive" -o "$folder/calls_cpp"
 try "calls on empty inputs, C++" "$folder/calls_cpp"
 
-for example in sentence receipt; do
-    try "$example, linked" gcc -std=c99 -O2 -Iinclude "examples/$example.c" "$archive" -o "$folder/$example"
+for source in tests/c/running.c examples/sentence.c examples/receipt.c; do
+    program=$(basename "$source" .c)
+    try "$program, linked" gcc -std=c99 -O2 -Iinclude "$source" "$archive" -o "$folder/$program"
 done
+prints running tests/c/running.out tests/c/running.in
 prints sentence tests/c/sentence.out <tests/vectors/007-I4.xml
 prints sentence tests/c/late-refusal.out <tests/c/late-refusal.xml
 prints sentence tests/c/refused.out <tests/vectors/005-A2-raw.xml
-python3 -c 'import sys; sys.stdout.buffer.write(bytes.fromhex(open(sys.argv[1]).read()))' tests/vectors/warn-01-sample.hex >"$folder/packet"
-prints receipt tests/c/receipt.out "$folder/packet"
+receives tests/vectors/warn-01-sample.hex tests/c/receipt.out
+receives tests/c/uncancelled.hex tests/c/uncancelled.out # the sample without its CANCEL flag
 
 # ---- its stack
 

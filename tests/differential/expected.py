@@ -27,13 +27,13 @@ CERTAINTIES = ("observed", "likely", "possible", "unlikely", "unknown")
 
 OUT_OF_RANGE = -1  # no fact of a sheet may be this
 
-VERSION = 10_201
+VERSION = 20_000
 NAMES = {1: b"packet too short", 2: b"not a WARN packet", 3: b"version not known", 4: b"not an alert", 5: b"packet too long",
          6: b"place out of range", 7: b"lasting time out of range", 8: b"key not listed", 9: b"signature not verified",
          10: b"sequence number not above the stored one", 11: b"no free entry in the table", 12: b"clock too late", 13: b"no room in the buffer",
          14: b"too long, or too many infos", 15: b"XML form not allowed", 16: b"element not allowed, or missing", 17: b"code not in its list",
          18: b"time not valid", 19: b"sender or identifier empty or with a forbidden byte", 21: b"what was asked for is not there",
-         22: b"polygon or circle not valid", 23: b"not read-backs, or a fact out of range"}
+         22: b"polygon or circle not valid", 23: b"not read-backs, or a fact out of range", 24: b"no room for the list"}
 
 
 class Remembered:
@@ -160,23 +160,15 @@ def packet_place(packet, latitude, longitude):
     return asked(model.warn_place(packet, latitude, longitude))
 
 
-# ---- the event table; the model's entries have two fields more, which are a later request's
-
-def widened(table):
-    return [(*entry, 0, 0) for entry in table]
-
-
-def narrowed(table):
-    return [entry[:6] for entry in table]
-
+# ---- the event table
 
 def receive(table, packet, keys, verified, clock):
-    answer = model.receive(widened(table), packet, keys, verified, clock)
-    return (answer[1], table) if refused(answer) else (0, narrowed(answer[1]))
+    answer = model.receive(table, packet, keys, verified, clock)
+    return (answer[1], table) if refused(answer) else (0, answer[1])
 
 
 def sweep(table, time):
-    return 0, narrowed(model.sweep(widened(table), time))
+    return 0, model.sweep(table, time)
 
 
 def find_event(table, key, event):
@@ -184,6 +176,13 @@ def find_event(table, key, event):
         if entry[0] and entry[1:3] == (key, event):
             return 0, index
     return 0, len(table)
+
+
+def running(room, table, time):
+    answer = model.running(table, time, len(room))
+    if refused(answer):
+        return answer[1], answer[2], room
+    return 0, answer[1], answer[2] + room[answer[1]:]
 
 
 # ---- sheets and texts

@@ -32,14 +32,16 @@ class Trespass(Exception):
 
 
 # The header's structs, field for field; the header asserts the same sizes and offsets. Padding is skipped.
-ENTRY = struct.Struct("<B3xIIHBxQ")
+ENTRY_FIELDS = "B3xIIHBxQQQ"
+ENTRY = struct.Struct("<" + ENTRY_FIELDS)
+EVENT = struct.Struct("<2I")
 SHEET = struct.Struct("<15Q")             # kind, then 14 numbers for either kind
 PACKET = struct.Struct("<4Q6Q2I2i3H10B")  # four times, three spans, numbers, flags and codes
-assert (ENTRY.size, SHEET.size, PACKET.size) == (24, 120, 112)
+assert (ENTRY.size, EVENT.size, SHEET.size, PACKET.size) == (40, 8, 120, 112)
 
 
 def packed(table):
-    return struct.pack("<" + "B3xIIHBxQ" * len(table), *itertools.chain.from_iterable(table))
+    return struct.pack("<" + ENTRY_FIELDS * len(table), *itertools.chain.from_iterable(table))
 
 
 class Lent:
@@ -85,6 +87,7 @@ class Library:
         self.value = Lent("*value", len(UNSET))
         self.table = Lent("the table", TABLE_ROOM)
         self.keys = Lent("the keys", TABLE_ROOM)
+        self.events = Lent("the room for events", TABLE_ROOM)
         self.sheet = Lent("the sheet", SHEET.size)
         self.parts = Lent("the packet's parts", PACKET.size)
         self.declare()
@@ -110,6 +113,7 @@ class Library:
             "receive": (byte, at, size, at, size, at, size, byte, long),
             "sweep": (None, at, size, long),
             "find_event": (size, at, size, word, word),
+            "running": (byte, at, size, at, size, long, at),
         }
         for name, (result, *parameters) in signatures.items():
             function = getattr(self.functions, "warnbox_" + name)
@@ -195,6 +199,13 @@ class Library:
         index = self.functions.warnbox_find_event(self.table.lend(packed(table)), len(table), key, event)
         self.table.unchanged()
         return 0, index
+
+    def running(self, room, table, time):
+        number = self.functions.warnbox_running(
+            self.events.lend(b"".join(EVENT.pack(*event) for event in room)), len(room), self.table.lend(packed(table)), len(table), time,
+            self.value.lend(UNSET))
+        self.table.unchanged()
+        return number, self.told(), list(EVENT.iter_unpack(self.events.left()))
 
     # ---- sheets and texts
 

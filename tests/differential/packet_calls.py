@@ -49,9 +49,9 @@ def circles_of(packet):
     return [(latitude, longitude, 10 * radius)] if model._place_in_range(latitude, longitude) else []
 
 
-def made(rng, event=None, sequence=None, ttl=None, key=None):
-    """A packet with each field at random or at its limits; of those that decide about refusal most are sound."""
-    timestamp, expiry = times(rng)
+def made(rng, event=None, sequence=None, ttl=None, key=None, period=None):
+    """A packet with each field at random or at its limits; of those that decide about refusal most are sound. The period is its timestamp and expiry."""
+    timestamp, expiry = times(rng) if period is None else period
     latitude, longitude = shapes.at_limits(rng) if chance(rng, 6) else shapes.centre(rng)
     head = struct.pack(
         ">4sBBHQIHH6BQQQiiH", rng.choice((b"WARN", b"WARN", b"warn", b"WARM", b"\0ARN")) if chance(rng, 3) else b"WARN",

@@ -24,10 +24,9 @@ use Rattle.events.specs.Steps.{checkedAnswer, scanned, positionIn, decid
 -- ---- where an event stands
 
 pub position-is :
-    (key event : ℕ) (es : List Entry) (s : Candidates) → s ≡ scanned key event es → (n : ℕ) → length es ≡ n → positionIn (s .known) n
-    ≡ positionOf key event es
+    (key event : ℕ) (es : List Entry) (i : ℕ) → i ≡ indexOf key event es → (n : ℕ) → length es ≡ n → positionIn i n ≡ positionOf key event es
 unfolding positionOf
-position-is key event es s e n long = rw (long, e)
+position-is key event es i e n long = rw (long, e)
 
 -- an outcome as its answer and its entries
 pub answer-and-entries : {o q : Outcome} → o ≡ q → (o .answer ≡ q .answer) × (o .entries ≡ q .entries)

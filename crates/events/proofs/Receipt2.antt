@@ -156,7 +156,7 @@ module _ (es : List Entry) (p keys : List ℕ) (verdict : Bool) (clock : ℕ) (a
           let e : a ≡ refuses 11 0 = is-full (none-of isFree es (ltb-false (freeIndex es) (length es) t)) in
           clash (cc))
 
-    is-stored : a ≡ gives tt → Stored es p keys verdict clock a fs f
+    pub is-stored : a ≡ gives tt → Stored es p keys verdict clock a fs f
     is-stored r =
         let test = isOf (f .key) (f .event) in
         let at = indexOf (f .key) (f .event) es in

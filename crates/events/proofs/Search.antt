@@ -3,12 +3,12 @@ use mathlib.Core.Path.{_≡_, refl, sym, _∙_, ap}
 use mathlib.Core.Bool.{Bool, true, false, cond, false≢true}
 use mathlib.Core.List.{List, [], _∷_, _++_}
 use Prim.Native.Nat.{ℕ, zero, suc, _+_, _≤_, _<_, zero-le, suc-le-suc}
-use native.Mathlib.Nat.{le-of-suc-le-suc, not-suc-le-zero}
+use native.Mathlib.Nat.{le-of-suc-le-suc, not-suc-le-zero, zero-add}
 use native.Mathlib.Numerals.{add-one}
 use native.Mathlib.Omega.{arith}
 use borrow.Author.Tests.{ltb-true, ltb-false, lt-ltb, le-ltb}
 use lib.Dec.{ltb, eqb}
-use lib.ListN.{length, getD, take, drop, drop-of-length-le, length-append, List·getD-append, List·getD-eq-default}
+use lib.ListN.{length, getD, take, drop, set, drop-of-length-le, length-append, List·getD-append, List·getD-eq-default}
 use lib.Seq.{drop-cons, take-suc, take-all, length-take-le, getD-append-seam}
 use Rattle.text.specs.Logic.{by-test}
 use Rattle.events.specs.declared.Entry.{Entry}
@@ -41,6 +41,21 @@ module _ (f : Entry → Bool) where
   unfolding firstIndex
   index-none [] n = refl
   index-none (e ∷ es) n = rw (n 0 (suc-le-suc zero-le)) (ap suc (index-none es (λ k h. n (suc k) (suc-le-suc h))))
+
+  -- a store of what passes as what it replaces leaves it
+  pub index-alike : (es : List Entry) (j : ℕ) (x : Entry) → f x ≡ f (getD es j blank) → firstIndex f (set es j x) ≡ firstIndex f es
+  unfolding firstIndex
+  index-alike [] j x h = refl
+  index-alike (e ∷ es) zero x h = rw h
+  index-alike (e ∷ es) (suc j) x h = ap (λ (k : ℕ). cond (f e) 0 (suc k)) (index-alike es j x h)
+
+  -- and so does every store behind an entry that passes
+  pub index-behind : (es : List Entry) (i j : ℕ) (x : Entry) → i < j → f (getD es i blank) ≡ true → firstIndex f (set es j x) ≡ firstIndex f es
+  unfolding firstIndex
+  index-behind [] i j x l h = refl
+  index-behind (e ∷ es) i zero x l h = absurd (not-suc-le-zero l)
+  index-behind (e ∷ es) zero (suc j) x l h = rw h
+  index-behind (e ∷ es) (suc i) (suc j) x l h = ap (λ (k : ℕ). cond (f e) 0 (suc k)) (index-behind es i j x (le-of-suc-le-suc l) h)
 
   -- an index among the entries is the first
   pub first-at : (es : List Entry) → firstIndex f es < length es → FirstAt f es (firstIndex f es)
@@ -76,6 +91,27 @@ module _ (f : Entry → Bool) where
       by-test (ltb (firstIndex f es) (length es))
       (ltb-true (firstIndex f es) (length es))
       (λ t. absurd (false≢true (sym (none-of es (ltb-false (firstIndex f es) (length es) t) k h) ∙ e)))
+
+  -- a search that has passed the first i entries: what is left to find is the first of the others
+  abbrev pub Passed : List Entry → ℕ → Type 0
+  Passed es i = firstIndex f es ≡ i + firstIndex f (drop i es)
+
+  module _ (es : List Entry) where
+    pub passed-none : Passed es 0
+    passed-none = sym (zero-add _)
+
+    module _ (i : ℕ) (so-far : Passed es i) where
+      pub passed-here : i < length es → f (getD es i blank) ≡ true → i ≡ firstIndex f es
+      unfolding firstIndex
+      passed-here h e = sym (so-far ∙ rw (drop-cons es i blank h, e) (omega arith))
+
+      pub passed-on : i < length es → f (getD es i blank) ≡ false → Passed es (i + 1)
+      unfolding firstIndex
+      passed-on h e = so-far ∙ rw (drop-cons es i blank h, e, add-one i) (omega arith)
+
+      pub passed-all : length es ≤ i → i ≡ firstIndex f es
+      unfolding firstIndex
+      passed-all h = sym (so-far ∙ rw (drop-of-length-le es h) (omega arith))
 
   next-suc : (k n : ℕ) (t : Bool) → suc (nextIndex k n (n + 1) t) ≡ nextIndex (suc k) (suc n) (suc n + 1) t
   next-suc k n t = cases (ltb k n) t refl

@@ -2,7 +2,7 @@
 use mathlib.Core.Path.{_≡_, refl, sym, _∙_, ap}
 use mathlib.Core.Bool.{true, false, false≢true}
 use mathlib.Core.List.{List, [], _∷_, _++_, append-nil}
-use Prim.Native.Nat.{ℕ, zero, suc, _+_, _≤_, _<_}
+use Prim.Native.Nat.{ℕ, zero, suc, _+_, _≤_, _<_, zero-le, suc-le-suc}
 use native.Mathlib.Nat.{le-of-suc-le-suc, not-suc-le-zero}
 use native.Mathlib.Numerals.{add-one}
 use native.Mathlib.Omega.{arith}
@@ -24,6 +24,13 @@ module _ (time : ℕ) where
   unfolding sweptAll
   swept-append [] fs = refl
   swept-append (e ∷ es) fs = ap (λ (r : List Entry). swept time e ∷ r) (swept-append es fs)
+
+  -- where no entry is stale nothing changes
+  pub swept-same : (es : List Entry) → NoneOf (isStale time) es → sweptAll time es ≡ es
+  unfolding sweptAll
+  swept-same [] n = refl
+  swept-same (e ∷ es) n =
+      rw (n 0 (suc-le-suc zero-le)) (ap (λ (r : List Entry). e ∷ r) (swept-same es (λ k h. n (suc k) (suc-le-suc h))))
 
   swept-at : (es : List Entry) (k : ℕ) → k < length es → getD (sweptAll time es) k blank ≡ swept time (getD es k blank)
   unfolding sweptAll

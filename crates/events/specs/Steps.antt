@@ -1,6 +1,6 @@
 -- What the functions of src/ hand each other on the way to `received`: the checks before the table, what one pass over
 -- the entries finds, and what is then stored.
-use mathlib.Core.Bool.{Bool, cond}
+use mathlib.Core.Bool.{Bool, cond, _&&_}
 use mathlib.Core.List.{List}
 use Prim.Native.Nat.{ℕ}
 use lib.Dec.{ltb}
@@ -16,7 +16,8 @@ use Rattle.events.specs.declared.Position.the-variants.{At, Nowhere}
 use Rattle.events.specs.declared.plans.Candidates.{Candidates}
 use Rattle.events.specs.declared.plans.Plan.{Plan}
 use Rattle.events.specs.declared.plans.Plan.the-variants.{Store, Refused}
-use Rattle.events.specs.Table.{isOf, isFree, blank, indexOf, freeIndex, renewed, fresh, refusalNumber}
+use Rattle.events.specs.Table.{isSet, isOf, isFree, blank, indexOf, freeIndex, renewed, fresh, refusalNumber}
+use Rattle.events.specs.Running.{isRunning}
 
 -- ---- the checks before the table
 
@@ -47,6 +48,12 @@ scanStep s e i next key event = record {
 -- an index among n entries
 abbrev pub positionIn : ℕ → ℕ → Position
 positionIn k n = cond (ltb k n) (At k) Nowhere
+
+-- ---- the running events
+
+-- a used entry that runs: only of such a one is it asked whether it is its event's first
+abbrev pub isActive : ℕ → Entry → Bool
+isActive time e = isSet (e .used) && isRunning time e
 
 -- ---- what is stored, and where, among n entries
 

@@ -32,7 +32,7 @@ isFree e = not (isSet (e .used))
 
 -- an entry for where there is none
 abbrev pub blank : Entry
-blank = record { used = 0; key = 0; event = 0; sequence = 0; cancelled = 0; «keep_until» = 0 }
+blank = record { used = 0; key = 0; event = 0; sequence = 0; cancelled = 0; «keep_until» = 0; timestamp = 0; expiry = 0 }
 
 -- the index of the first entry that passes a test, or the number of entries
 unfoldable pub firstIndex : (Entry → Bool) → List Entry → ℕ
@@ -52,11 +52,21 @@ positionOf key event es = cond (ltb (indexOf key event es) (length es)) (At (ind
 
 -- ---- acceptance
 
--- what a packet that passes every check before the table's own stores; its keep-until is "now plus ttl"
+-- what a packet that passes every check before the table's own stores; its keep-until is "now plus ttl", and with it "the accepted packet's timestamp and
+-- expiry" (document 02, [7])
 abbrev pub newOf : ℕ → Fields → New
-newOf clock f = record { key = f .key; event = f .event; sequence = f .sequence; cancelled = f .cancel; «keep_until» = clock + f .ttl }
+newOf clock f = record {
+  key = f .key;
+  event = f .event;
+  sequence = f .sequence;
+  cancelled = f .cancel;
+  «keep_until» = clock + f .ttl;
+  timestamp = f .timestamp;
+  expiry = f .expiry;
+}
 
--- "On acceptance the entry takes the packet's sequence number and CANCEL flag, and keep-until becomes the larger of its old one and now plus ttl."
+-- "On acceptance the entry takes the packet's sequence number and CANCEL flag, and keep-until becomes the larger of its old one and now plus ttl.";
+-- "Acceptance writes the two new fields with the others" (document 02, [7])
 abbrev pub renewed : New → Entry → Entry
 renewed new e = record {
   used = e .used;
@@ -65,6 +75,8 @@ renewed new e = record {
   sequence = new .sequence;
   cancelled = boolByte (new .cancelled);
   «keep_until» = cond (ltb (e .«keep_until») (new .«keep_until»)) (new .«keep_until») (e .«keep_until»);
+  timestamp = new .timestamp;
+  expiry = new .expiry;
 }
 
 -- "A new event takes the lowest free entry, now used under its key id and event, with any sequence number; its
@@ -77,6 +89,8 @@ fresh new = record {
   sequence = new .sequence;
   cancelled = boolByte (new .cancelled);
   «keep_until» = new .«keep_until»;
+  timestamp = new .timestamp;
+  expiry = new .expiry;
 }
 
 -- "Acceptance answers just that": the answer, and the entries afterwards
@@ -142,7 +156,8 @@ abbrev pub receiptAnswer : Receipt → Answer Prim.Unit
 receiptAnswer Accepted = gives tt
 receiptAnswer (Refused r) = refuses (refusalNumber r) 0
 
--- ---- "Sweeping at a time frees exactly the used entries whose keep-until is below it, touching only their used mark."
+-- ---- "Sweeping at a time frees exactly the used entries whose keep-until is below it, touching only their used mark.";
+-- "sweeping still looks at keep-until only" (document 02, [7])
 
 abbrev pub isStale : ℕ → Entry → Bool
 isStale time e = isSet (e .used) && ltb (e .«keep_until») time
@@ -156,6 +171,8 @@ swept time e =
       sequence = e .sequence;
       cancelled = e .cancelled;
       «keep_until» = e .«keep_until»;
+      timestamp = e .timestamp;
+      expiry = e .expiry;
     }) e
 
 unfoldable pub sweptAll : ℕ → List Entry → List Entry

@@ -44,6 +44,8 @@ fn new_of(clock: u64, fields: Fields) -> New
         sequence: fields.sequence,
         cancelled: fields.cancel,
         keep_until: clock + (fields.ttl as u64),
+        timestamp: fields.timestamp,
+        expiry: fields.expiry,
     }
 }
 

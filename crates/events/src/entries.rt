@@ -1,10 +1,13 @@
 // The rules on one entry, by value.
 use crate::Entry;
+use crate::Event;
 use crate::New;
 ghost use mathlib.Core.Path.{_≡_};
 ghost use mathlib.Core.Bool.{cond};
 ghost use lib.Dec.{ltb};
 ghost use Rattle.events.specs.Table.{isSet, isOf, isFree, blank, renewed, fresh, isStale, swept};
+ghost use Rattle.events.specs.Running.{isRunning, eventOf};
+ghost use Rattle.events.specs.Steps.{isActive};
 
 // Whether a byte is set: any byte but 0 is.
 pub fn is_set(byte: u8) -> bool
@@ -38,6 +41,8 @@ pub fn blank_entry() -> Entry
         sequence: 0,
         cancelled: 0,
         keep_until: 0,
+        timestamp: 0,
+        expiry: 0,
     }
 }
 
@@ -69,6 +74,8 @@ pub fn renew(entry: Entry, new: New) -> Entry
         sequence: new.sequence,
         cancelled: new.cancelled as u8,
         keep_until: later(entry.keep_until, new.keep_until),
+        timestamp: new.timestamp,
+        expiry: new.expiry, // an update may shorten it
     }
 }
 
@@ -83,6 +90,8 @@ pub fn fresh_entry(new: New) -> Entry
         sequence: new.sequence,
         cancelled: new.cancelled as u8,
         keep_until: new.keep_until,
+        timestamp: new.timestamp,
+        expiry: new.expiry,
     }
 }
 
@@ -105,7 +114,33 @@ pub fn sweep_entry(time: u64, entry: Entry) -> Entry
             sequence: entry.sequence,
             cancelled: entry.cancelled,
             keep_until: entry.keep_until,
+            timestamp: entry.timestamp,
+            expiry: entry.expiry,
         };
     }
     entry
+}
+
+// Whether an entry is uncancelled, its timestamp at or before a time and its expiry after it.
+pub fn is_running(time: u64, entry: Entry) -> bool
+    ensures { λ r. ⌜ r ≡ isRunning time entry ⌝ }
+{
+    !is_set(entry.cancelled) & (entry.timestamp <= time) & (time < entry.expiry)
+}
+
+// Whether an entry is a used one that runs.
+pub fn is_active(time: u64, entry: Entry) -> bool
+    ensures { λ r. ⌜ r ≡ isActive time entry ⌝ }
+{
+    is_set(entry.used) & is_running(time, entry)
+}
+
+// The event of an entry.
+pub fn event_of(entry: Entry) -> Event
+    ensures { λ r. ⌜ r ≡ eventOf entry ⌝ }
+{
+    Event {
+        key: entry.key,
+        event: entry.event,
+    }
 }

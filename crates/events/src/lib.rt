@@ -1,12 +1,16 @@
 // The event table: which packets are accepted, and what the table then holds.
 use packet::Fault;
 ghost use mathlib.Core.Path.{_≡_};
+ghost use lib.ListN.{length, replicate};
 ghost use Rattle.text.specs.Answers.{answerNumber};
+ghost use Rattle.text.specs.Rooms.{afterListing};
 ghost use Rattle.events.specs.Table.{positionOf, tableOutcome, received, refusalNumber, receiptAnswer, sweptAll};
+ghost use Rattle.events.specs.Running.{noEvent, running};
 ghost use Rattle.events.specs.Steps.{scanned};
 
 pub mod checks;
 pub mod entries;
+mod lists;
 pub mod plans;
 
 use checks::Checked;
@@ -23,6 +27,8 @@ pub struct Entry {
     pub sequence: u16,
     pub cancelled: u8,
     pub keep_until: u64,
+    pub timestamp: u64,
+    pub expiry: u64,
 }
 
 // A table of 64 entries, by value.
@@ -37,6 +43,15 @@ pub struct New {
     pub sequence: u16,
     pub cancelled: bool,
     pub keep_until: u64,
+    pub timestamp: u64,
+    pub expiry: u64,
+}
+
+// An event: the key id and the event number. A caller in C lends room for such events.
+#[repr(C)]
+pub struct Event {
+    pub key: u32,
+    pub event: u32,
 }
 
 // Why a packet is refused: by the checks before the table, by the table, or by itself.
@@ -61,6 +76,18 @@ pub struct Received {
     pub table: Table,
 }
 
+// The running events of a table by value: how many they are, and room for 64, of which they take the first places.
+pub struct Running {
+    pub count: usize,
+    pub events: [Event; 64],
+}
+
+// The answer to listing the running events into a room: how many they are, or that they have no room there.
+pub enum ListRunning {
+    Count(usize),
+    NoRoom,
+}
+
 // Where an event's first used entry stands.
 pub enum Position {
     At(usize),
@@ -72,7 +99,7 @@ pub fn find(table: Table, key: u32, event: u32) -> Position
     ensures { λ r. ⌜ r ≡ positionOf key event (table .entries) ⌝ }
 {
     let found = scan(table, key, event);
-    plans::position(found, 64)
+    plans::position(found.known, 64)
 }
 
 // A packet is received. `verdict` is the signature chip's, `keys` are the key ids that are listened to.
@@ -101,6 +128,25 @@ pub fn sweep(table: Table, time: u64) -> Table
         i += 1;
     }
     next
+}
+
+// The running events of a table at a time.
+pub fn list_running(table: Table, time: u64) -> Running
+    ensures { λ r. ⌜ (r .count ≡ length (running time (table .entries))) × (r .events ≡ afterListing (replicate 64 noEvent) (running time (table .entries))) ⌝ }
+{
+    let mut list = lists::no_events();
+    let mut i: usize = 0;
+    while i < 64 {
+        let entry = table.entries[i];
+        if entries::is_active(time, entry) {
+            let found = scan(table, entry.key, entry.event);
+            if found.known == i {
+                list = lists::with_event(list, entries::event_of(entry));
+            }
+        }
+        i += 1;
+    }
+    list
 }
 
 // One pass over the entries: an event's first used entry, and the lowest free one.

@@ -78,12 +78,12 @@ pub fn scan_step(
     Candidates { known, free, entry }
 }
 
-// Where the event stands among n entries.
-pub fn position(found: Candidates, n: usize) -> Position
-    ensures { λ r. ⌜ r ≡ positionIn (found .known) n ⌝ }
+// Where an event stands among n entries, from its index, which is n where it has no entry.
+pub fn position(index: usize, n: usize) -> Position
+    ensures { λ r. ⌜ r ≡ positionIn index n ⌝ }
 {
-    if found.known < n {
-        return Position::At(found.known);
+    if index < n {
+        return Position::At(index);
     }
     Position::Nowhere
 }

@@ -1,8 +1,10 @@
 // Feeds packets to an event table, and writes each answer and the table.
-// Standard input is a run of records: a letter ('R' to receive, 'S' to sweep, 'T' to write the table, 'P' to ask about places near the
-// date line), a clock (8 bytes), a verdict (1 byte), a length (2 bytes) and a packet. tests/receive.py writes the records and, by the independent model, the stored output.
+// Standard input is a run of records: a letter ('R' to receive, 'S' to sweep, 'T' to write the table, 'L' to list the running events, 'P' to ask
+// about places near the date line), a clock (8 bytes), a verdict (1 byte), a length (2 bytes) and a packet. tests/receive.py writes the records
+// and, by the independent model, the stored output.
 use coordinates::Place;
 use events::Entry;
+use events::Event;
 use events::Receipt;
 use events::Table;
 use input::Ending;
@@ -97,6 +99,8 @@ fn print_entry(i: usize, entry: Entry) {
         print(b" cancelled");
     }
     print_spaced(entry.keep_until);
+    print_spaced(entry.timestamp);
+    print_spaced(entry.expiry);
     print(b"\n");
 }
 
@@ -106,6 +110,27 @@ fn print_table(table: Table) {
         let entry = table.entries[i];
         if events::entries::is_set(entry.used) | (0 < entry.keep_until) {
             print_entry(i, entry);
+        }
+        i += 1;
+    }
+}
+
+fn print_event(event: Event) {
+    print_number(event.key as u64);
+    print_spaced(event.event as u64);
+    print(b"\n");
+}
+
+// How many events run at a time, and each of them.
+fn print_running(table: Table, time: u64) {
+    let list = events::list_running(table, time);
+    print_number(list.count as u64);
+    print(b"\n");
+    let mut i = 0;
+    while i < 64 {
+        if i < list.count {
+            let event = list.events[i];
+            print_event(event);
         }
         i += 1;
     }
@@ -132,6 +157,10 @@ fn take_record(table: Table, kind: u8, clock: u64, verdict: bool, bytes: &[u8]) 
     }
     if kind == b'T' {
         print_table(table);
+        return table;
+    }
+    if kind == b'L' {
+        print_running(table, clock);
         return table;
     }
     if kind == b'P' {
@@ -171,14 +200,7 @@ fn number_at(input: &[u8], at: usize, width: usize) -> u64 {
 }
 
 fn empty_table() -> Table {
-    let blank = Entry {
-        used: 0,
-        key: 0,
-        event: 0,
-        sequence: 0,
-        cancelled: 0,
-        keep_until: 0,
-    };
+    let blank = events::entries::blank_entry();
     Table {
         entries: [blank; 64],
     }

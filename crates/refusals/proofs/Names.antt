@@ -26,14 +26,14 @@ pub unnamed : (d : List ℕ) (at n : ℕ) → length (nameOf n) ≡ 0 → (refus
 unfolding naming afterName
 unnamed d at n e = rw e (refl, refl)
 
--- no number from 24 on has one
-pub no-name : (n : ℕ) → 24 ≤ n → length (nameOf n) ≡ 0
+-- no number from 25 on has one
+pub no-name : (n : ℕ) → 25 ≤ n → length (nameOf n) ≡ 0
 unfolding names nameOf
 no-name n h = rw (List·getD-eq-default names [] {n = n} h)
 
 module _ {rows : List (List ℕ)} {lengths : List ℕ} {n : ℕ} (p : Rows rows lengths n) where
   here : isRow rows lengths n ≡ true
-  here = below-at 24 (isRow rows lengths) (p .right) n (p .number-below)
+  here = below-at 25 (isRow rows lengths) (p .right) n (p .number-below)
 
   pub row-length : length (getD rows n []) ≡ 51
   row-length = eqb-true (length (getD rows n [])) 51 (and-left _ _ (and-left _ _ here))
@@ -55,6 +55,6 @@ isShort n = leb (length (nameOf n)) 64
 pub name-le : (n : ℕ) → length (nameOf n) ≤ 64
 unfolding names nameOf
 name-le n =
-    by-test (ltb n 24)
-    (λ e. leb-true (length (nameOf n)) 64 (below-at 24 isShort tt n (ltb-true n 24 e)))
-    (λ e. rw (no-name n (ltb-false n 24 e)) (omega arith))
+    by-test (ltb n 25)
+    (λ e. leb-true (length (nameOf n)) 64 (below-at 25 isShort tt n (ltb-true n 25 e)))
+    (λ e. rw (no-name n (ltb-false n 25 e)) (omega arith))

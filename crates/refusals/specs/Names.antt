@@ -1,4 +1,4 @@
--- A short name for each refusal of document 01's table "Refusal numbers", and the answer to writing one into a buffer.
+-- A short name for each refusal of document 01's table "Refusal numbers" and of the requests of document 02, and the answer to writing one into a buffer.
 use mathlib.Core.Bool.{Bool, cond}
 use mathlib.Core.List.{List, [], _∷_}
 use Prim.Native.Nat.{ℕ}
@@ -37,6 +37,7 @@ names =
     ∷ ascii "what was asked for is not there"
     ∷ ascii "polygon or circle not valid"
     ∷ ascii "not read-backs, or a fact out of range"
+    ∷ ascii "no room for the list"
     ∷ []
 
 -- a number's name, empty where it has none

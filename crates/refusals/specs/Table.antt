@@ -13,7 +13,7 @@ abbrev pub isRow : (rows : List (List ℕ)) (lengths : List ℕ) → ℕ → Boo
 isRow rows lengths k =
     eqb (length (getD rows k [])) 51 && leb (getD lengths k 0) 51 && eql (take (getD lengths k 0) (getD rows k [])) (nameOf k)
 
--- a table has the names of the numbers below 24, and n is one of these
+-- a table has the names of the numbers below 25, and n is one of these
 pub record Rows (rows : List (List ℕ)) (lengths : List ℕ) (n : ℕ) : Type 0 where
-  pub right : T (below 24 (isRow rows lengths))
-  pub number-below : n < 24
+  pub right : T (below 25 (isRow rows lengths))
+  pub number-below : n < 25

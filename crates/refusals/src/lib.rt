@@ -15,7 +15,7 @@ pub enum WriteName {
 }
 
 // The name of each number, from 0 on, filled up with spaces; 0 and 20 are no refusal's.
-const ROWS: [[u8; 51]; 24] = [
+const ROWS: [[u8; 51]; 25] = [
     *b"                                                   ",
     *b"packet too short                                   ",
     *b"not a WARN packet                                  ",
@@ -40,11 +40,12 @@ const ROWS: [[u8; 51]; 24] = [
     *b"what was asked for is not there                    ",
     *b"polygon or circle not valid                        ",
     *b"not read-backs, or a fact out of range             ",
+    *b"no room for the list                               ",
 ];
 
 // How many bytes of its row each name has.
-const LENGTHS: [u8; 24] = [
-    0, 16, 17, 17, 12, 15, 18, 25, 14, 22, 40, 26, 14, 21, 27, 20, 31, 20, 14, 51, 0, 31, 27, 38,
+const LENGTHS: [u8; 25] = [
+    0, 16, 17, 17, 12, 15, 18, 25, 14, 22, 40, 26, 14, 21, 27, 20, 31, 20, 14, 51, 0, 31, 27, 38, 20,
 ];
 
 // Writes a name that is given.
@@ -61,8 +62,8 @@ fn write(buffer: &mut [u8], start: usize, name: &[u8]) -> WriteName
 fn write_row(
     buffer: &mut [u8],
     start: usize,
-    rows: &[[u8; 51]; 24],
-    lengths: &[u8; 24],
+    rows: &[[u8; 51]; 25],
+    lengths: &[u8; 25],
     n: usize,
 ) -> WriteName
     requires { ⌜ Rows (now rows) (now lengths) n ⌝ }
@@ -81,7 +82,7 @@ pub fn write_name(buffer: &mut [u8], start: usize, number: u8) -> WriteName
     ensures { λ r. ⌜ (nameAnswer r ≡ naming (now (buffer .entry)) start number) × (now (buffer .exit) ≡ afterName (now (buffer .entry)) start number) ⌝ }
 {
     let n = number as usize;
-    if 24 <= n {
+    if 25 <= n {
         return WriteName::NotThere;
     }
     write_row(buffer, start, &ROWS, &LENGTHS, n)

@@ -1,4 +1,5 @@
 pub mod Runs
 pub mod Laws
 pub mod Parts
+pub mod Rooms
 pub mod Spelling

@@ -1,4 +1,5 @@
 pub mod Answers
+pub mod Rooms
 pub mod Ascii
 pub mod Bytes
 pub mod Tokens

@@ -1,8 +1,10 @@
 -- A slice that is lent, in a walk by hand.
 --     opened, closed   a `&mut [T]` is opened, which gives the row of its elements, and is closed at another list of the same length.        looked,
 --                      shut      the like of a `&[T]`, which gives a share of the row
+--     copied           a `&[T]` is had twice
 --     given-up         a `&mut [T]` is given up, which leaves what says its last list.        spent    it was given up to a callee
---     lent-again       a whole row is lent as a `&[T]` for a lifetime ν of its own, until it comes back
+--     lent-again       a whole row is lent as a `&[T]` for a lifetime ν of its own, until it comes back (`back-again`).        lent-mut, back-mut       the
+--                      like of a `&mut [T]`, which comes back with the callee's last list
 -- Assumes `Given`.
 use mathlib.Core.Path.{_≡_, refl, sym, ap, subst}
 use Prim.Native.Nat.{ℕ, _+_, _*_, _<_}
@@ -16,7 +18,7 @@ use base.Fml.{Lft, GName, Share, Fml, ftrue, fsep, feq, flft, fobs, fauth, fres,
 use base.Logic.{sep, emp, id⊢}
 use prog.Wp.{Heap}
 use ghost.Atoms.{Atoms}
-use types.Kit.{Goal, Soaks, Given, Item, ‵, raw, _⊛_, some, later, Seq, Step, step, _$_, move, drop, rewrite, use0, use1, split, join, pick, fsplit}
+use types.Kit.{Goal, Soaks, Given, Item, ‵, raw, _⊛_, some, later, Seq, Step, step, _$_, move, drop, rewrite, use0, use1, use2, split, join, pick, fsplit}
 use types.Kit.{fjoin, feqI, feqL, await}
 use types.Share.{arr-parts}
 use types.Tokens.{lft-new, lft-end, lent-back}
@@ -27,9 +29,10 @@ use denote.Signature.{Slot}
 use denote.Steps.{nothing, owned}
 use denote.Shadow.{pureI}
 use denote.Ref.{RefT, now, at-last}
-use denote.Slice.{sliceVal, slice-vals, MutSlice, ShrSlice, heres, Room, at-slice, codedHoleys, finally, res-finally}
-use denote.Lend.{Held, lends-shr-slice}
-use denote.Index.{row, others, place-is, elem-out, elem-back, elem-put, opens-slice, closes-slice, looks-slice, shuts-slice}
+use denote.Slice.{sliceVal, slice-vals, MutSlice, ShrSlice, heres, Room, at-slice, codedHoleys, finally, res-finally, shr-slice-copy}
+use denote.Lend.{Held, lends-shr-slice, lends-slice, slice-back}
+use types.SemTy.{cells, Arr}
+use denote.Index.{row, whole-in, whole-out, others, place-is, elem-out, elem-back, elem-put, opens-slice, closes-slice, looks-slice, shuts-slice}
 use Rattle.walks.proofs.Types.{Plain}
 use Rattle.walks.proofs.Walked.{nothings, had}
 
@@ -94,6 +97,11 @@ module _ {M : Type 1} {𝓤 : URA M} {H : Heap 𝓤} {A : Atoms 𝓤} {K : Type 
       → Step K W ((‵ (flft κ q) ⊛ ‵ ftrue) ∷ Γ) G (‵ (elements R x s (now x)) ∷ ‵ (fobor κ q (part-of R x s)) ∷ Γ) G
   shut z R s x = step (λ k. shuts-slice t z R s (now x) (x .ptr .0) (x .ptr .1) $ nothing t $ move t (1 ∷ 0 ∷ []) $ join t $ k)
 
+  pub copied : (R : RattleType) (ℓ : Lifetime) {κ : Lft} (x : RefT (List (R .Denot))) (vs : List Val)
+      → Step K W (‵ (ShrSlice ℓ κ R .own x vs) ∷ ‵ (ShrSlice ℓ κ R .own x vs) ∷ Γ) G (‵ (ShrSlice ℓ κ R .own x vs) ∷ Γ) G
+  copied R ℓ {κ} x vs = step (λ s. use1 W (‵ (ShrSlice ℓ κ R .own x vs) ⊛ ‵ (ShrSlice ℓ κ R .own x vs)) (shr-slice-copy 𝓤 H A W ℓ κ R .twice x vs) $
+      split t $ s)
+
   -- ---- an element in its place
   pub taken : {R : RattleType} (p : Plain R) (q : Share) (ys : List (R .Denot)) (i : ℕ) (d : R .Denot) (b o : ℕ) → i < length ys
       → (Is R (getD ys i d) (p .spelled .val (getD ys i d) ∷ []) → Seq K W (‵ (cellAt q (R .mir) (p .spelled .val (getD ys i d) ∷ []) b
@@ -137,3 +145,23 @@ module _ {M : Type 1} {𝓤 : URA M} {H : Heap 𝓤} {A : Atoms 𝓤} {K : Type 
       (flent (ν ∷ []) (part-of R x fullShare)) ∷ Γ) G
   back-again z R x {ν} = step (λ s. use1 W (‵ (flft (ν ∷ []) fullShare) ⊛ ‵ ftrue) (id⊢ 𝓤 _) $ split t $ lft-end t z $ move t (0 ∷ 3 ∷ []) $
       lent-back t z $ fsplit t $ move t (2 ∷ 3 ∷ []) $ drop t $ drop t $ drop t $ s)
+
+  pub lent-mut : Soaks G → (R : RattleType) (ℓ : Lifetime) (x : RefT (List (R .Denot))) → Room R (length (now x))
+      → ((ν : ℕ) (δ : GName) → Seq K W (‵ (MutSlice ℓ (ν ∷ []) R .own (record { ptr = x .ptr; name = δ; now = now x }) (slice-vals x)) ∷ ‵
+      (flft (ν ∷ []) fullShare) ∷ ‵ (flent (ν ∷ []) (Held R (length (now x)) (x .ptr .0) (x .ptr .1) δ)) ∷ Γ) G)
+      → Seq K W (‵ (elements R x fullShare (now x)) ∷ Γ) G
+  lent-mut z R ℓ x g k = use1 W (‵ (cells (mem R) (now x) (x .ptr .0) (x .ptr .1))) (whole-in 𝓤 H A W R (now x) (x .ptr .0) (x .ptr .1)) $
+      lft-new t z (λ ν. move t (1 ∷ []) $
+      use1 W (later (some (λ (δ : GName). ‵ (MutSlice ℓ (ν ∷ []) R .own (record { ptr = x .ptr; name = δ; now = now x }) (slice-vals x)) ⊛ ‵
+      (flent (ν ∷ []) (Held R (length (now x)) (x .ptr .0) (x .ptr .1) δ)))))
+      (lends-slice 𝓤 H A W R ℓ (ν ∷ []) (now x) (x .ptr .0) (x .ptr .1) g) $ await t z $ pick t (λ δ. split t $ move t (0 ∷ 2 ∷ []) $ k ν δ))
+
+  pub back-mut : Soaks G → (R : RattleType) (x : RefT (List (R .Denot))) (zs : List (R .Denot)) {ν m : ℕ} {δ : GName} {P : Fml}
+      → Step K W (‵ (elements R x fullShare zs) ∷ Γ) G (‵ (flft (ν ∷ []) fullShare) ∷ ‵ (fsep (fsep (finally R δ zs) (feq ℕ (length zs) m)) P) ∷ ‵
+      (flent (ν ∷ []) (Held R (length (now x)) (x .ptr .0) (x .ptr .1) δ)) ∷ Γ) G
+  back-mut z R x zs {ν} {δ = δ} = step (λ s. lft-end t z $ move t (1 ∷ []) $ fsplit t $ fsplit t $ move t (1 ∷ 2 ∷ []) $ drop t $ drop t $
+      -- the last list; that ν is over; the lender's part
+      move t (2 ∷ 0 ∷ []) $ join t $ move t (1 ∷ 0 ∷ []) $
+      use2 W (later (‵ (Arr (mem R) (length (now x)) .lies zs (x .ptr .0) (x .ptr .1))))
+      (slice-back 𝓤 H A W R (ν ∷ []) δ zs (length (now x)) (x .ptr .0) (x .ptr .1)) $ await t z $ fsplit t $ drop t $
+      use1 W (‵ (elements R x fullShare zs)) (whole-out 𝓤 H A W R zs (x .ptr .0) (x .ptr .1)) $ s)

@@ -2,7 +2,8 @@
 --     counts           the loop's own rule, from what holds at each count:    At i     what is had where the loop's test is reached for the i-th
 --                      time.        step     a turn at i < n ends in At (i + 1), or leaves by itself.        stop     the turn at n leaves the loop
 --     counted          the same for a loop in a block, with the code that follows it
---     tests            a turn's test: it goes on, or it leaves.        when     code that runs only where a test holds
+--     tests            a turn's test: it goes on, or it leaves.        breaks   the same the other way round
+--     when             code that runs only where a test holds, and then what follows.        either   one of two, and then what follows
 --     switched         the arms of a switch, and then what follows
 -- Assumes `Given`.
 use mathlib.Core.Path.{_≡_, subst}
@@ -75,6 +76,27 @@ module _ {M : Type 1} {𝓤 : URA M} {H : Heap 𝓤} {A : Atoms 𝓤} {K : Type 
       → (T y → Seq K W Γ (runs C Λ E b q)) → (T (not y) → Seq K W Γ (prop (post 𝓤 H q (exits n))))
       → Seq K W Γ (runs C Λ E (seq (cond c skip (exit n)) b) q)
   tests t o k l = first t $ branches t o (λ h. skips t $ record { prf = k h .prf }) (λ h. jumps t $ l h)
+
+  pub breaks : K → {C : Calls 𝓤 H} {Λ : Loops 𝓤 H} {Γ : List (Item 𝓤)} {c : Operand} {n : ℕ} {b : Body} {y : Bool} → Opd K W Γ E c (vbool y)
+      → (T y → Seq K W Γ (prop (post 𝓤 H q (exits n)))) → (T (not y) → Seq K W Γ (runs C Λ E b q))
+      → Seq K W Γ (runs C Λ E (seq (cond c (exit n) skip) b) q)
+  breaks t o l k = first t $ branches t o (λ h. jumps t $ l h) (λ h. skips t $ record { prf = k h .prf })
+
+  -- a choice, and then what follows; each arm is shown for any q′ that what follows meets
+  pub either : K → {C : Calls 𝓤 H} {Λ : Loops 𝓤 H} {Γ : List (Item 𝓤)} {c : Operand} {b b′ rest : Body} {y : Bool} → Opd K W Γ E c (vbool y)
+      → ((q′ : Post 𝓤 H) → ((Δ : List (Item 𝓤)) → Seq K W Δ (runs C Λ E rest q) → Seq K W Δ (prop (post 𝓤 H q′ next)))
+      → (T y → Seq K W Γ (runs C Λ E b q′)) × (T (not y) → Seq K W Γ (runs C Λ E b′ q′)))
+      → Seq K W Γ (runs C Λ E (seq (cond c b b′) rest) q)
+  either t {C} {Λ} {rest = rest} o k =
+      let arms = k (anyQ (afterSeq 𝓤 H (Wp 𝓤 H C Λ E rest (post 𝓤 H q)) (post 𝓤 H q))) (λ Δ s. record { prf = s .prf }) in
+      first t $ branches t o (arms .0) (arms .1)
+
+  pub when : K → {C : Calls 𝓤 H} {Λ : Loops 𝓤 H} {Γ : List (Item 𝓤)} {c : Operand} {b rest : Body} {y : Bool} → Opd K W Γ E c (vbool y)
+      → (T y → (q′ : Post 𝓤 H) → ((Δ : List (Item 𝓤)) → Seq K W Δ (runs C Λ E rest q) → Seq K W Δ (prop (post 𝓤 H q′ next)))
+      → Seq K W Γ (runs C Λ E b q′))
+      → (T (not y) → Seq K W Γ (runs C Λ E rest q))
+      → Seq K W Γ (runs C Λ E (seq (cond c b skip) rest) q)
+  when t o k l = either t o (λ q′ then. ((λ h. k h q′ then), λ h. skips t $ then _ (l h)))
 
   -- a switch, and then what follows; each arm is shown for any q′ that what follows meets
   pub switched : K → {C : Calls 𝓤 H} {Λ : Loops 𝓤 H} {Γ : List (Item 𝓤)} {c : Operand} {arms : Arms} {rest : Body} {w : Width} {x : ℕ}

@@ -1,6 +1,6 @@
--- The library's version, 1.2.1.
+-- The library's version, 2.0.0.
 use Prim.Native.Nat.{ℕ, _+_, _*_}
 
 -- as one number: 10,000 for each major version, 100 for each minor one, 1 for each patch
 abbrev pub version : ℕ
-version = 1 * 10000 + 2 * 100 + 1
+version = 2 * 10000 + 0 * 100 + 0

@@ -5,6 +5,7 @@ mod documents; // documents.rt: CAP documents
 mod names; // names.rt: the names of refusals, and the library's version
 mod packets; // packets.rt: WARN packets
 mod replies; // replies.rt: answers as numbers
+pub mod running; // running.rt: the running events of the event table
 mod sentences; // sentences.rt: writing a sheet, and reading a text back
 mod sheets; // sheets.rt: sheets that are drawn from documents and packets
 pub mod tables; // tables.rt: the event table as the caller lends it

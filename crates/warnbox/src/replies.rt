@@ -2,6 +2,7 @@
 use crate::Reply;
 use crate::sheets::Drawn;
 use document::Check;
+use events::ListRunning;
 use packet::Packet;
 use packet::PacketPlace;
 use parts::CapPlace;
@@ -14,6 +15,7 @@ ghost use Rattle.text.specs.Answers.{gives, refuses, giving, answerNumber};
 ghost use Rattle.refusals.specs.Names.{nameAnswer};
 ghost use Rattle.sheet.specs.Answers.{writeAnswer, readAnswer};
 ghost use Rattle.packet.specs.Packet as packet;
+ghost use Rattle.events.specs.Running.{listAnswer};
 ghost use Rattle.document.specs.Documents.{checkAnswer};
 ghost use Rattle.parts.specs.Places as parts;
 ghost use Rattle.warnbox.specs.Replies.{reply, sideNumber, countOf};
@@ -114,5 +116,14 @@ pub fn name_reply(answer: WriteName) -> Reply
         WriteName::End(end) => given(end),
         WriteName::NotThere => refused(21, 0),
         WriteName::NoRoom => refused(13, 0),
+    }
+}
+
+pub fn list_reply(answer: ListRunning) -> Reply
+    ensures { λ r. ⌜ r ≡ reply (listAnswer answer) ⌝ }
+{
+    match answer {
+        ListRunning::Count(count) => given(count),
+        ListRunning::NoRoom => refused(24, 0),
     }
 }

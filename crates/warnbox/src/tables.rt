@@ -41,16 +41,22 @@ fn scan(entries: &[Entry], key: u32, event: u32) -> Candidates
 pub extern "C" fn warnbox_find_event(entries: &[Entry], key: u32, event: u32) -> usize
     ensures { λ r. ⌜ r ≡ indexOf key event (now (entries .entry)) ⌝ }
 {
-    let found = scan(entries, key, event);
-    found.known
+    let mut i: usize = 0;
+    while i < entries.len() {
+        if events::entries::is_of(key, event, entries[i]) {
+            break;
+        }
+        i += 1;
+    }
+    i
 }
 
 // Where an event's first used entry stands.
 pub fn find(entries: &[Entry], key: u32, event: u32) -> Position
     ensures { λ r. ⌜ r ≡ positionOf key event (now (entries .entry)) ⌝ }
 {
-    let found = scan(entries, key, event);
-    events::plans::position(found, entries.len())
+    let index = warnbox_find_event(entries, key, event);
+    events::plans::position(index, entries.len())
 }
 
 // A packet that passed the checks before the table is accepted or refused.

@@ -41,7 +41,7 @@ use Rattle.events.proofs.plans.Plan.Laws as L′
 use Rattle.events.proofs.Refusal as F
 use Rattle.events.proofs.Receipt as N
 use Rattle.events.proofs.Receipt.Laws as N′
-use Rattle.warnbox.proofs.TableTypes.{entry, new, candidates, plan, refusal, receipt}
+use Rattle.warnbox.proofs.TableTypes.{entry-size, entry, new, candidates, plan, refusal, receipt}
 use Rattle.warnbox.proofs.tables.scan as scan
 use Rattle.warnbox.proofs.tables.scan.Symbol as scan-def
 use Rattle.warnbox.proofs.tables.scan.Met as scan-thm
@@ -109,7 +109,7 @@ module _ {M : Type 1} (𝓤 : URA M) (H : Heap 𝓤) (A : Atoms 𝓤) (W : Given
       (runs (𝓣 .C) (𝓣 .Λ) E text.t-6 leaving)
   carry (Store i x) e is =
       let within : i < n = store-within s n item i x (sym e) in
-      let scaled : Fits w64 (i * 24) = scaled-fits i n 24 within (room .1) in
+      let scaled : Fits w64 (i * entry-size) = scaled-fits i n entry-size within (room .1) in
       let kept : Is R x (entry .spelled .val x ∷ []) = EL.owed L.the-type L′.the-laws (Store i x) _ is .1 .0 in
       let said : Is N.the-row receipts.Accepted (receipt .spelled .val receipts.Accepted ∷ []) = EL.owes N.the-type N′.the-laws receipts.Accepted tt in
       switched ! (load ! (from ! (vrt ! refl (fld ! refl (stop !)))) (look-tag ! 9 (whole !))) (λ q′ then. (

@@ -24,7 +24,7 @@ use Rattle.events.proofs.Search.{scanned-none, scanned-next, scanned-all}
 use Rattle.events.proofs.Entry as T
 use Rattle.events.proofs.Entry.Laws as T′
 use Rattle.events.proofs.plans.Candidates as P
-use Rattle.warnbox.proofs.TableTypes.{entry, candidates}
+use Rattle.warnbox.proofs.TableTypes.{entry-size, entry, candidates}
 use Rattle.events.proofs.plans.no_candidates as none
 use Rattle.events.proofs.plans.no_candidates.Symbol as none-def
 use Rattle.events.proofs.plans.no_candidates.Met as none-thm
@@ -72,7 +72,7 @@ module _ {M : Type 1} (𝓤 : URA M) (H : Heap 𝓤) (A : Atoms 𝓤) (W : Given
       sets ! 9 refl (bin ! (local ! 7 refl) (local ! 8 refl) tt) (tt, tt) $
       tests ! (local ! 9 refl) (λ yes.
       let small : i < n = ltb→lt i n yes in
-      let scaled : Fits w64 (i * 24) = scaled-fits i n 24 small (are .0 .0 .1 .1) in
+      let scaled : Fits w64 (i * entry-size) = scaled-fits i n entry-size small (are .0 .0 .1 .1) in
       let further : i + 1 < 2 ^ 64 = omega (arith, are .0 .0 .1 .0) in
       let e : Entry = getD xs i blank in
       resets ! 8 refl (bin ! (local ! 7 refl) (lit ! tt) scaled) (tt, scaled) $ sets ! 10 refl

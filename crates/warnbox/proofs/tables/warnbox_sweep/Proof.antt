@@ -19,7 +19,7 @@ use Rattle.events.specs.declared.Entry.{Entry}
 use Rattle.events.specs.Table.{blank, swept}
 use Rattle.events.proofs.Sweeping.{sweptTo, swept-to-none, swept-to-all, swept-to-length, swept-to-next}
 use Rattle.events.proofs.Entry as T
-use Rattle.warnbox.proofs.TableTypes.{entry}
+use Rattle.warnbox.proofs.TableTypes.{entry-size, entry}
 use Rattle.events.proofs.entries.sweep_entry as one
 use Rattle.events.proofs.entries.sweep_entry.Symbol as one-def
 use Rattle.events.proofs.entries.sweep_entry.Met as one-thm
@@ -60,7 +60,7 @@ module _ {M : Type 1} (𝓤 : URA M) (H : Heap 𝓤) (A : Atoms 𝓤) (W : Given
       tests ! (local ! 9 refl) (λ yes.
       let small : i < n = ltb→lt i n yes in
       let inside : i < length (zs i) = subst (λ (m : ℕ). i < m) (sym (swept-to-length c xs i)) small in
-      let scaled : Fits w64 (i * 24) = scaled-fits i n 24 small (are .0 .0 .1 .1) in
+      let scaled : Fits w64 (i * entry-size) = scaled-fits i n entry-size small (are .0 .0 .1 .1) in
       let further : Fits w64 (i + 1) = record { fits = omega (arith, are .0 .0 .1 .0) } in
       let e : Entry = getD (zs i) i blank in
       resets ! 8 refl (bin ! (local ! 7 refl) (lit ! tt) scaled) (tt, scaled) $ sets ! 11 refl
