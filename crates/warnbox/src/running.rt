@@ -39,6 +39,7 @@ pub fn list_running(room: &mut [Event], entries: &[Entry], time: u64) -> ListRun
     ensures { λ r. ⌜ (listAnswer r ≡ listing (now (room .entry)) (running time (now (entries .entry))))
         × (now (room .exit) ≡ afterListing (now (room .entry)) (running time (now (entries .entry)))) ⌝ }
 {
+    // no more than so many are running
     let mut most = entries.len();
     if room.len() < most {
         let count = list(room, false, entries, time);
