@@ -9,7 +9,7 @@ use lib.ListN.{length, getD, set, replicate}
 use Rattle.text.specs.Rooms.{afterListing}
 use Rattle.text.proofs.Rooms.{listed-fits}
 use Rattle.events.specs.declared.Entry.{Entry}
-use Rattle.events.specs.declared.Event.{Event}
+use Rattle.events.specs.declared.EventId.{EventId}
 use Rattle.events.specs.declared.Running.{Running}
 use Rattle.events.specs.declared.plans.Candidates.{Candidates}
 use Rattle.events.specs.Table.{blank, indexOf}
@@ -33,7 +33,7 @@ module _ (time : ℕ) (es : List Entry) (i : ℕ) (found : Candidates) (e : foun
 -- ---- the list
 
 module _ (time : ℕ) (es : List Entry) where
-  abbrev places : ℕ → List Event
+  abbrev places : ℕ → List EventId
   places i = roomAt true (replicate 64 noEvent) time es i
 
   -- a list holds the running events among the first i entries at its first places

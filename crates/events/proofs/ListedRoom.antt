@@ -10,7 +10,7 @@ use Rattle.text.specs.Logic.{by-test, and-left, and-right, and-comm}
 use Rattle.text.specs.Rooms.{filled}
 use Rattle.text.proofs.Rooms.{filled-none, filled-next, filled-over, filled-length}
 use Rattle.events.specs.declared.Entry.{Entry}
-use Rattle.events.specs.declared.Event.{Event}
+use Rattle.events.specs.declared.EventId.{EventId}
 use Rattle.events.specs.Table.{blank, isSet, isOf, indexOf}
 use Rattle.events.specs.Running.{eventOf, isRunning, isFirst, runsAt, runningTo, running}
 use Rattle.events.specs.Steps.{isActive}
@@ -42,18 +42,18 @@ module _ (time : ℕ) (es : List Entry) (i : ℕ) where
 -- ---- the room
 
 -- what the room rs holds with a list in it
-abbrev pub roomWith : Bool → List Event → List Event → List Event
+abbrev pub roomWith : Bool → List EventId → List EventId → List EventId
 roomWith writing rs list = cond writing (filled rs list) rs
 
-module _ (writing : Bool) (rs : List Event) where
-  pub room-length : (list : List Event) → length (roomWith writing rs list) ≡ length rs
+module _ (writing : Bool) (rs : List EventId) where
+  pub room-length : (list : List EventId) → length (roomWith writing rs list) ≡ length rs
   room-length list = cases writing
     where
       cases : (w : Bool) → length (roomWith w rs list) ≡ length rs
       cases true = filled-length rs list
       cases false = refl
 
-  module _ (list : List Event) (x : Event) where
+  module _ (list : List EventId) (x : EventId) where
     -- one event more is stored where there is a place for it, and else left out
     stored : writing && ltb (length list) (length rs) ≡ true
         → set (roomWith writing rs list) (length list) x ≡ roomWith writing rs (list ++ (x ∷ []))
@@ -72,7 +72,7 @@ module _ (writing : Bool) (rs : List Event) where
 
   module _ (time : ℕ) (es : List Entry) where
     -- with the events of the first i entries
-    abbrev pub roomAt : ℕ → List Event
+    abbrev pub roomAt : ℕ → List EventId
     roomAt i = roomWith writing rs (runningTo time es i)
 
     pub room-none : rs ≡ roomAt 0

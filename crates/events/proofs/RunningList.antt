@@ -15,7 +15,7 @@ use mir.Val.{boolByte}
 use Rattle.text.specs.Logic.{by-test, and-left, and-right, clash}
 use Rattle.packet.specs.declared.Fields.{Fields}
 use Rattle.events.specs.declared.Entry.{Entry}
-use Rattle.events.specs.declared.Event.{Event}
+use Rattle.events.specs.declared.EventId.{EventId}
 use Rattle.events.specs.Table.{blank, isSet, isOf, isFree, firstIndex}
 use Rattle.events.specs.Running.{eventOf, noEvent, isRunning, isFirst, runsAt, runningTo, running}
 use Rattle.events.specs.Demand2.{OnlyAt, FirstAt, Stored, inEntry, inFree}
@@ -40,7 +40,7 @@ unset false = (λ _. refl, λ _. refl)
 
 -- ---- a list of events with one more at its end
 
-module _ (list : List Event) (y : Event) where
+module _ (list : List EventId) (y : EventId) where
   longer : length (list ++ (y ∷ [])) ≡ length list + 1
   longer = length-append list (y ∷ [])
 
@@ -48,7 +48,7 @@ module _ (list : List Event) (y : Event) where
   last : StandsAt y (list ++ (y ∷ [])) (length list)
   last = record { within = rw longer (omega arith); here = getD-append-seam list y [] noEvent }
 
-  module _ {x : Event} {j : ℕ} where
+  module _ {x : EventId} {j : ℕ} where
     -- which stand where they stood
     stays : StandsAt x list j → StandsAt x (list ++ (y ∷ [])) j
     stays s = record { within = rw longer (omega arith); here = List·getD-append list (y ∷ []) noEvent j (s .within) ∙ s .here }
@@ -67,11 +67,11 @@ module _ (list : List Event) (y : Event) where
 
 -- ---- one entry
 
-abbrev isEntryOf : Event → Entry → Bool
+abbrev isEntryOf : EventId → Entry → Bool
 isEntryOf x e = isOf (x .key) (x .event) e
 
 -- a used entry of an event
-module _ (x : Event) (e : Entry) (h : isEntryOf x e ≡ true) where
+module _ (x : EventId) (e : Entry) (h : isEntryOf x e ≡ true) where
   -- it passes the test's parts
   its-tests : (isSet (e .used) ≡ true) × (eqb (e .key) (x .key) ≡ true) × (eqb (e .event) (x .event) ≡ true)
   its-tests = all-three (isSet (e .used)) (eqb (e .key) (x .key)) (eqb (e .event) (x .event)) h
@@ -81,15 +81,15 @@ module _ (x : Event) (e : Entry) (h : isEntryOf x e ≡ true) where
   its-event = rw (eqb-true (e .key) (x .key) (its-tests .1), eqb-true (e .event) (x .event) (its-tests .2))
 
   -- and is one of an equal event
-  entry-of-same : (y : Event) → y ≡ x → isEntryOf y e ≡ true
-  entry-of-same y q = ap (λ (z : Event). isEntryOf z e) q ∙ h
+  entry-of-same : (y : EventId) → y ≡ x → isEntryOf y e ≡ true
+  entry-of-same y q = ap (λ (z : EventId). isEntryOf z e) q ∙ h
 
 -- an entry of an event, or a free one
-abbrev OfOrFree : Event → Entry → Type 0
+abbrev OfOrFree : EventId → Entry → Type 0
 OfOrFree x e = isFree e ≡ false → isEntryOf x e ≡ true
 
 -- is of no other event
-module _ (x : Event) (e : Entry) (o : OfOrFree x e) (y : Event) where
+module _ (x : EventId) (e : Entry) (o : OfOrFree x e) (y : EventId) where
   of-one : isEntryOf y e ≡ true → y ≡ x
   of-one h = sym (its-event y e h) ∙ its-event x e (o (rw (its-tests y e h .0)))
 
@@ -97,7 +97,7 @@ module _ (x : Event) (e : Entry) (o : OfOrFree x e) (y : Event) where
   of-no-other n = by-test (isEntryOf y e) (λ t. absurd (n (of-one t))) (λ t. t)
 
 -- past the last entry there is none of an event
-entry-within : (x : Event) (es : List Entry) (j : ℕ) → isEntryOf x (getD es j blank) ≡ true → j < length es
+entry-within : (x : EventId) (es : List Entry) (j : ℕ) → isEntryOf x (getD es j blank) ≡ true → j < length es
 entry-within x es j h =
     by-test (ltb j (length es))
     (ltb-true j (length es))
@@ -120,30 +120,30 @@ module _ (time : ℕ) (e : Entry) where
 
 module _ (time : ℕ) (es : List Entry) where
   -- the events listed for the first n entries
-  abbrev upTo : ℕ → List Event
+  abbrev upTo : ℕ → List EventId
   upTo n = runningTo time es n
 
   -- the event of an entry
-  abbrev own : ℕ → Event
+  abbrev own : ℕ → EventId
   own i = eventOf (getD es i blank)
 
   -- where an event's first used entry is
-  abbrev indexIn : Event → ℕ
+  abbrev indexIn : EventId → ℕ
   indexIn x = firstIndex (isEntryOf x) es
 
   -- an event whose first used entry, among the first n, runs
-  record RunsAmong (n : ℕ) (x : Event) : Type 0 where
+  record RunsAmong (n : ℕ) (x : EventId) : Type 0 where
     index : ℕ
     below : index < n
     runs : runsAt time es index ≡ true
     is : own index ≡ x
 
   -- it is found at that entry
-  found-at : (i : ℕ) (x : Event) → runsAt time es i ≡ true → own i ≡ x → indexIn x ≡ i
+  found-at : (i : ℕ) (x : EventId) → runsAt time es i ≡ true → own i ≡ x → indexIn x ≡ i
   found-at i x t e = rw (← e) (eqb-true _ i (and-right (isRunning time (getD es i blank)) _ t))
 
   -- with one entry more it still runs, and every event stands where it stood
-  module _ (n : ℕ) {x : Event} where
+  module _ (n : ℕ) {x : EventId} where
     more : RunsAmong n x → RunsAmong (suc n) x
     more a = record { index = a .index; below = omega (arith, a .below); runs = a .runs; is = a .is }
 
@@ -160,7 +160,7 @@ module _ (time : ℕ) (es : List Entry) where
           (by-test (runsAt time es n) (λ t. rw (running-hit time es n t) (stays (upTo n) (own n) s)) (λ t. rw (running-miss time es n t) s))
 
   -- a listed event runs
-  entry-of : (n : ℕ) (x : Event) (j : ℕ) → StandsAt x (upTo n) j → RunsAmong n x
+  entry-of : (n : ℕ) (x : EventId) (j : ℕ) → StandsAt x (upTo n) j → RunsAmong n x
   entry-of zero x j s = absurd (not-suc-le-zero (rw (running-none time es) at (s .within)))
   entry-of (suc n) x j s =
       by-test (runsAt time es n)
@@ -169,7 +169,7 @@ module _ (time : ℕ) (es : List Entry) where
       (λ t. more n (entry-of n x j (next-miss n t s)))
 
   -- and one that runs is listed
-  place-of : (n : ℕ) (x : Event) → RunsAmong n x → Listed x (upTo n)
+  place-of : (n : ℕ) (x : EventId) → RunsAmong n x → Listed x (upTo n)
   place-of zero x a = absurd (not-suc-le-zero (a .below))
   place-of (suc n) x a =
       ⊎-elim
@@ -179,7 +179,7 @@ module _ (time : ℕ) (es : List Entry) where
       (eq-or-lt-of-le (le-of-suc-le-suc (a .below)))
 
   -- of two events the first in the list is the first in the table
-  rising : (n : ℕ) (x y : Event) (j k : ℕ) → j < k → StandsAt x (upTo n) j → StandsAt y (upTo n) k → indexIn x < indexIn y
+  rising : (n : ℕ) (x y : EventId) (j k : ℕ) → j < k → StandsAt x (upTo n) j → StandsAt y (upTo n) k → indexIn x < indexIn y
   rising zero x y j k h s t = absurd (not-suc-le-zero (rw (running-none time es) at (s .within)))
   rising (suc n) x y j k h s t =
       by-test (runsAt time es n)
@@ -194,7 +194,7 @@ module _ (time : ℕ) (es : List Entry) where
 
   -- ---- the whole list
 
-  module _ (x : Event) where
+  module _ (x : EventId) where
     -- a listed event's first used entry runs
     listed-runs : Listed x (running time es) → (i : ℕ) × FirstAt (isEntryOf x) es i × Runs time (getD es i blank)
     unfolding running
@@ -225,12 +225,12 @@ module _ (time : ℕ) (es : List Entry) where
       )
 
   -- the list is in table order
-  in-order : (x y : Event) (j k : ℕ) → j < k → StandsAt x (running time es) j → StandsAt y (running time es) k → indexIn x < indexIn y
+  in-order : (x y : EventId) (j k : ℕ) → j < k → StandsAt x (running time es) j → StandsAt y (running time es) k → indexIn x < indexIn y
   unfolding running
   in-order = rising (length es)
 
   -- so an event stands there once
-  only-once : (x : Event) (j k : ℕ) → StandsAt x (running time es) j → StandsAt x (running time es) k → j ≡ k
+  only-once : (x : EventId) (j k : ℕ) → StandsAt x (running time es) j → StandsAt x (running time es) k → j ≡ k
   only-once x j k s t =
       by-test (ltb j k)
       (λ l. absurd (lt-irrefl _ (in-order x x j k (ltb-true j k l) s t)))
@@ -239,7 +239,7 @@ module _ (time : ℕ) (es : List Entry) where
 -- ---- a later used entry of an event
 
 -- what an entry adds to the list
-abbrev adds : ℕ → List Entry → ℕ → List Event
+abbrev adds : ℕ → List Entry → ℕ → List EventId
 adds time es k = cond (runsAt time es k) (eventOf (getD es k blank) ∷ []) []
 
 -- where each entry adds the same the lists are the same
@@ -248,7 +248,7 @@ unfolding runningTo
 running-same time es fs same zero = refl
 running-same time es fs same (suc n) = rw (running-same time es fs same n, same n)
 
-module _ (time : ℕ) (x : Event) (i j : ℕ) (l : i < j) where
+module _ (time : ℕ) (x : EventId) (i j : ℕ) (l : i < j) where
   -- it is not listed, and neither is a free entry in its place
   not-listed :
       (es : List Entry) → isEntryOf x (getD es i blank) ≡ true → j < length es → OfOrFree x (getD es j blank) → runsAt time es j ≡ false
@@ -264,7 +264,7 @@ module _ (time : ℕ) (x : Event) (i j : ℕ) (l : i < j) where
   module _ (es : List Entry) (e : Entry) (h : isEntryOf x (getD es i blank) ≡ true) (g : isEntryOf x (getD es j blank) ≡ true)
       (o : OfOrFree x e) where
     -- no event's first used entry is changed
-    index-stays : (y : Event) → firstIndex (isEntryOf y) (set es j e) ≡ firstIndex (isEntryOf y) es
+    index-stays : (y : EventId) → firstIndex (isEntryOf y) (set es j e) ≡ firstIndex (isEntryOf y) es
     index-stays y =
         by-test (isEntryOf y (getD es i blank))
         (index-behind (isEntryOf y) es i j e l)
@@ -297,7 +297,7 @@ running-list time es = record {
 -- ---- acceptance
 
 -- entries that differ at one index, where neither is of an event
-module _ (x : Event) (es fs : List Entry) (i : ℕ) (long : length fs ≡ length es)
+module _ (x : EventId) (es fs : List Entry) (i : ℕ) (long : length fs ≡ length es)
     (elsewhere : (k : ℕ) → (k ≡ i → ⊥) → getD fs k blank ≡ getD es k blank) (before : isEntryOf x (getD es i blank) ≡ false)
     (after : isEntryOf x (getD fs i blank) ≡ false) where
   -- the same entries are of the event

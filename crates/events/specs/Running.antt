@@ -7,17 +7,17 @@ use lib.Dec.{eqb, leb, ltb}
 use lib.ListN.{length, getD}
 use Rattle.text.specs.Answers.{Answer, gives, refuses}
 use Rattle.events.specs.declared.Entry.{Entry}
-use Rattle.events.specs.declared.Event.{Event}
+use Rattle.events.specs.declared.EventId.{EventId}
 use Rattle.events.specs.declared.ListRunning.{ListRunning}
 use Rattle.events.specs.declared.ListRunning.the-variants.{Count, NoRoom}
 use Rattle.events.specs.Table.{isSet, blank, indexOf}
 
 -- "key id and event"
-abbrev pub eventOf : Entry → Event
+abbrev pub eventOf : Entry → EventId
 eventOf e = record { key = e .key; event = e .event }
 
 -- an event for where there is none
-abbrev pub noEvent : Event
+abbrev pub noEvent : EventId
 noEvent = record { key = 0; event = 0 }
 
 -- "uncancelled, with timestamp at or before a given time and expiry after it"
@@ -33,11 +33,11 @@ abbrev pub runsAt : ℕ → List Entry → ℕ → Bool
 runsAt time es i = isRunning time (getD es i blank) && isFirst es i
 
 -- "in table order": those among the first n entries
-unfoldable pub runningTo : ℕ → List Entry → ℕ → List Event
+unfoldable pub runningTo : ℕ → List Entry → ℕ → List EventId
 runningTo time es zero = []
 runningTo time es (suc n) = runningTo time es n ++ cond (runsAt time es n) (eventOf (getD es n blank) ∷ []) []
 
-unfoldable pub running : ℕ → List Entry → List Event
+unfoldable pub running : ℕ → List Entry → List EventId
 running time es = runningTo time es (length es)
 
 abbrev pub listAnswer : ListRunning → Answer ℕ

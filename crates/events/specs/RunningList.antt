@@ -8,20 +8,20 @@ use lib.ListN.{length, getD, set}
 use Rattle.text.specs.Answers.{Answer, gives}
 use Rattle.packet.specs.declared.Fields.{Fields}
 use Rattle.events.specs.declared.Entry.{Entry}
-use Rattle.events.specs.declared.Event.{Event}
+use Rattle.events.specs.declared.EventId.{EventId}
 use Rattle.events.specs.Table.{blank, isOf, isFree, indexOf, isStale, sweptAll}
 use Rattle.events.specs.Running.{noEvent, running}
 use Rattle.events.specs.Demand2.{FirstAt, NoneOf, Call, Passes}
 
-abbrev pub event : (key number : ℕ) → Event
+abbrev pub event : (key number : ℕ) → EventId
 event key number = record { key = key; event = number }
 
 -- an event stands in a list, at place j
-pub record StandsAt (x : Event) (list : List Event) (j : ℕ) : Type 0 where
+pub record StandsAt (x : EventId) (list : List EventId) (j : ℕ) : Type 0 where
   pub within : j < length list
   pub here : getD list j noEvent ≡ x
 
-abbrev pub Listed : Event → List Event → Type 0
+abbrev pub Listed : EventId → List EventId → Type 0
 Listed x list = (j : ℕ) × StandsAt x list j
 
 -- "uncancelled, with timestamp at or before a given time and expiry after it"
@@ -41,7 +41,7 @@ module _ (time : ℕ) (es : List Entry) where
         (key number : ℕ)
         → Listed (event key number) (running time es) ↔ ((i : ℕ) × FirstAt (isOf key number) es i × Runs time (getD es i blank))
     -- each event is listed at most once
-    pub once : (x : Event) (j k : ℕ) → StandsAt x (running time es) j → StandsAt x (running time es) k → j ≡ k
+    pub once : (x : EventId) (j k : ℕ) → StandsAt x (running time es) j → StandsAt x (running time es) k → j ≡ k
     -- "in table order"
     pub ordered : (j k : ℕ) → j < k → k < length (running time es) → entryOf j < entryOf k
     -- a later used entry of an event never matters: whatever of the event is put there, or a free entry
@@ -58,7 +58,7 @@ pub record ListAfter (es fs : List Entry) (f : Fields) (time : ℕ) : Type 0 whe
   -- the packet's event is listed by that packet alone
   pub own : Listed (event (f .key) (f .event)) (running time fs) ↔ ((f .cancel ≡ false) × (f .timestamp ≤ time) × (time < f .expiry))
   -- and every other event as before
-  pub others : (x : Event) → (x ≡ event (f .key) (f .event) → ⊥) → Listed x (running time fs) ↔ Listed x (running time es)
+  pub others : (x : EventId) → (x ≡ event (f .key) (f .event) → ⊥) → Listed x (running time fs) ↔ Listed x (running time es)
 
 -- so it is after every call of a receiver that accepts
 abbrev pub AcceptedList : Type 0

@@ -1,6 +1,6 @@
 // The rules on one entry, by value.
 use crate::Entry;
-use crate::Event;
+use crate::EventId;
 use crate::New;
 ghost use mathlib.Core.Path.{_≡_};
 ghost use mathlib.Core.Bool.{cond};
@@ -136,10 +136,10 @@ pub fn is_active(time: u64, entry: Entry) -> bool
 }
 
 // The event of an entry.
-pub fn event_of(entry: Entry) -> Event
+pub fn event_of(entry: Entry) -> EventId
     ensures { λ r. ⌜ r ≡ eventOf entry ⌝ }
 {
-    Event {
+    EventId {
         key: entry.key,
         event: entry.event,
     }

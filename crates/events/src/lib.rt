@@ -47,9 +47,9 @@ pub struct New {
     pub expiry: u64,
 }
 
-// An event: the key id and the event number. A caller in C lends room for such events.
+// What an event is known by: the key id and the event number. A caller in C lends room for such.
 #[repr(C)]
-pub struct Event {
+pub struct EventId {
     pub key: u32,
     pub event: u32,
 }
@@ -79,7 +79,7 @@ pub struct Received {
 // The running events of a table by value: how many they are, and room for 64, of which they take the first places.
 pub struct Running {
     pub count: usize,
-    pub events: [Event; 64],
+    pub events: [EventId; 64],
 }
 
 // The answer to listing the running events into a room: how many they are, or that they have no room there.

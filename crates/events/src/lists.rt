@@ -1,5 +1,5 @@
 // Lists of events by value.
-use crate::Event;
+use crate::EventId;
 use crate::Running;
 ghost use mathlib.Core.Path.{_≡_};
 ghost use Prim.Native.Nat.{_+_, _<_};
@@ -10,7 +10,7 @@ ghost use Rattle.events.specs.Running.{noEvent};
 pub fn no_events() -> Running
     ensures { λ r. ⌜ (r .count ≡ 0) × (r .events ≡ replicate 64 noEvent) ⌝ }
 {
-    let none = Event { key: 0, event: 0 };
+    let none = EventId { key: 0, event: 0 };
     Running {
         count: 0,
         events: [none; 64],
@@ -18,7 +18,7 @@ pub fn no_events() -> Running
 }
 
 // A list with one event more, which has room for it.
-pub fn with_event(list: Running, event: Event) -> Running
+pub fn with_event(list: Running, event: EventId) -> Running
     requires { ⌜ list .count < 64 ⌝ }
     ensures { λ r. ⌜ (r .count ≡ list .count + 1) × (r .events ≡ set (list .events) (list .count) event) ⌝ }
 {

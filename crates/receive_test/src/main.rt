@@ -4,7 +4,7 @@
 // and, by the independent model, the stored output.
 use coordinates::Place;
 use events::Entry;
-use events::Event;
+use events::EventId;
 use events::Receipt;
 use events::Table;
 use input::Ending;
@@ -115,7 +115,7 @@ fn print_table(table: Table) {
     }
 }
 
-fn print_event(event: Event) {
+fn print_event(event: EventId) {
     print_number(event.key as u64);
     print_spaced(event.event as u64);
     print(b"\n");

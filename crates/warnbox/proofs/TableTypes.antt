@@ -4,8 +4,8 @@ use Prim.Native.Nat.{ℕ}
 use Rattle.walks.proofs.Types.{Plain, struct, enum}
 use Rattle.events.proofs.Entry as T
 use Rattle.events.proofs.Entry.Laws as T′
-use Rattle.events.proofs.Event as E
-use Rattle.events.proofs.Event.Laws as E′
+use Rattle.events.proofs.EventId as E
+use Rattle.events.proofs.EventId.Laws as E′
 use Rattle.events.proofs.New as S
 use Rattle.events.proofs.New.Laws as S′
 use Rattle.events.proofs.Refusal as F

@@ -2,7 +2,7 @@
 use crate::replies::list_reply;
 use crate::tables::warnbox_find_event;
 use events::Entry;
-use events::Event;
+use events::EventId;
 use events::ListRunning;
 ghost use mathlib.Core.Path.{_≡_};
 ghost use mathlib.Core.Bool.{cond};
@@ -12,7 +12,7 @@ ghost use Rattle.events.specs.Running.{running, listAnswer};
 ghost use Rattle.warnbox.specs.Replies.{reply};
 
 // Counts the running events. Where `writing` is set they are put into the room too, as many as it has places for.
-fn list(room: &mut [Event], writing: bool, entries: &[Entry], time: u64) -> usize
+fn list(room: &mut [EventId], writing: bool, entries: &[Entry], time: u64) -> usize
     ensures { λ r. ⌜ (r ≡ length (running time (now (entries .entry))))
         × (now (room .exit) ≡ cond writing (filled (now (room .entry)) (running time (now (entries .entry)))) (now (room .entry))) ⌝ }
 {
@@ -35,7 +35,7 @@ fn list(room: &mut [Event], writing: bool, entries: &[Entry], time: u64) -> usiz
 }
 
 // Lists the running events. A refusal leaves the room as it was, so they are counted first, unless the room has a place for each entry.
-pub fn list_running(room: &mut [Event], entries: &[Entry], time: u64) -> ListRunning
+pub fn list_running(room: &mut [EventId], entries: &[Entry], time: u64) -> ListRunning
     ensures { λ r. ⌜ (listAnswer r ≡ listing (now (room .entry)) (running time (now (entries .entry))))
         × (now (room .exit) ≡ afterListing (now (room .entry)) (running time (now (entries .entry)))) ⌝ }
 {
@@ -56,7 +56,7 @@ pub fn list_running(room: &mut [Event], entries: &[Entry], time: u64) -> ListRun
 // Lists the running events; the value is how many they are.
 #[no_mangle]
 pub extern "C" fn warnbox_running(
-    room: &mut [Event],
+    room: &mut [EventId],
     entries: &[Entry],
     time: u64,
     value: &mut usize,

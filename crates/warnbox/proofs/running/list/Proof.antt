@@ -28,7 +28,7 @@ use denote.Slice.{ShrSlice, Room}
 use denote.Struct.Laws as LL
 use Rattle.text.specs.Logic.{T-true, and-right}
 use Rattle.events.specs.declared.Entry.{Entry}
-use Rattle.events.specs.declared.Event.{Event}
+use Rattle.events.specs.declared.EventId.{EventId}
 use Rattle.events.specs.Table.{blank, indexOf}
 use Rattle.events.specs.Running.{noEvent, eventOf, runsAt, runningTo}
 use Rattle.events.specs.Steps.{isActive}
@@ -36,7 +36,7 @@ use Rattle.events.proofs.Listing.{running-none, running-miss, running-all, runn
 use Rattle.events.proofs.ListedRoom.{roomAt, room-none, room-length, room-miss, room-stored, room-full, room-all, count-hit, runs-first, runs-later, runs-not}
 use Rattle.events.proofs.Entry as T
 use Rattle.events.proofs.Entry.Laws as T′
-use Rattle.events.proofs.Event as Y
+use Rattle.events.proofs.EventId as Y
 use Rattle.warnbox.proofs.TableTypes.{entry-size, event-size, entry, event}
 use Rattle.events.proofs.entries.is_active as active
 use Rattle.events.proofs.entries.is_active.Symbol as active-def
@@ -69,7 +69,7 @@ adds-one k = assign (place k []) (op2 (add unsigned) (copy (place k [])) (int w6
 
 module _ {M : Type 1} (𝓤 : URA M) (H : Heap 𝓤) (A : Atoms 𝓤) (W : Given 𝓤 H A) (mem : Memory → SProp 𝓤) (run : Routine → Fun 𝓤) (𝓣 : Tables 𝓤 H)
     (κs : Lfts 2) (qs : Shares 2) (a : Args list.signature κs) (bs : Blocks (code.function .locals)) where
-  abbrev rs : List Event
+  abbrev rs : List EventId
   rs = now (a .0)
 
   abbrev writing : Bool
@@ -84,7 +84,7 @@ module _ {M : Type 1} (𝓤 : URA M) (H : Heap 𝓤) (A : Atoms 𝓤) (W : Given
   abbrev count : ℕ → ℕ
   count i = length (runningTo time xs i)
 
-  abbrev zs : ℕ → List Event
+  abbrev zs : ℕ → List EventId
   zs i = roomAt writing rs time xs i
 
   abbrev room : Val
@@ -106,7 +106,7 @@ module _ {M : Type 1} (𝓤 : URA M) (H : Heap 𝓤) (A : Atoms 𝓤) (W : Given
   lent = ShrSlice (named 1) (κs .1 .0) R .own (a .1 .1 .0) (slice ∷ [])
 
   -- the entries' token, the entries; the room, that it is open, and two notes; local k at k + 6, with c in local 5, i in local 6, and what the others hold
-  abbrev Open : List Event → (c i : ℕ) → List Content → List (Item 𝓤)
+  abbrev Open : List EventId → (c i : ℕ) → List Content → List (Item 𝓤)
   Open ys c i cs = token ∷ ‵ lent ∷ ‵ (elements P (a .0) fullShare ys) ∷ ‵ (opening P (a .0) (κs .0) (qs .0)) ∷ ‵ (noted P (a .0)) ∷ ‵ (known P (a .0))
       ∷ frame 𝓤 H E (empty ∷ holds room ∷ holds (vbool writing) ∷ holds slice ∷ holds (vint w64 time) ∷ holds (vint w64 c) ∷ holds (vint w64 i) ∷ cs) []
 
@@ -114,20 +114,20 @@ module _ {M : Type 1} (𝓤 : URA M) (H : Heap 𝓤) (A : Atoms 𝓤) (W : Given
   starts : {G : Goal 𝓤 H} → Seq (Go {0}) W (Open (zs 0) (count 0) 0 []) G → Seq (Go {0}) W (Open rs 0 0 []) G
   starts {G} s =
       subst (λ (k : ℕ). Seq (Go {0}) W (Open rs k 0 []) G) (ap length (running-none time xs))
-      (subst (λ (l : List Event). Seq (Go {0}) W (Open l (count 0) 0 []) G) (sym (room-none writing rs time xs)) s)
+      (subst (λ (l : List EventId). Seq (Go {0}) W (Open l (count 0) 0 []) G) (sym (room-none writing rs time xs)) s)
 
   -- the end of a turn: the next one begins
-  next-turn : (i c : ℕ) (ys : List Event) {q : Post 𝓤 H} {v₇ v₉ v₁₀ v₁₁ v₁₂ v₁₃ : Val} → ys ≡ zs (i + 1) → c ≡ count (i + 1) → i + 1 < 2 ^ 64
+  next-turn : (i c : ℕ) (ys : List EventId) {q : Post 𝓤 H} {v₇ v₉ v₁₀ v₁₁ v₁₂ v₁₃ : Val} → ys ≡ zs (i + 1) → c ≡ count (i + 1) → i + 1 < 2 ^ 64
       → Seq (Go {0}) W (Open (zs (i + 1)) (count (i + 1)) (i + 1) []) (prop (post 𝓤 H q next))
       → Seq (Go {0}) W (Open ys c i (holds v₇ ∷ empty ∷ holds v₉ ∷ holds v₁₀ ∷ holds v₁₁ ∷ holds v₁₂ ∷ holds v₁₃ ∷ [])) (runs (𝓣 .C) (𝓣 .Λ) E (adds-one 6) q)
   next-turn i c ys {q} same more fits again =
       assigns-last ! (bin ! (local ! 12 refl) (lit ! tt) (record { fits = fits })) (from ! (stop !)) (store ! 12 refl (tt, record { fits = fits })) $
       forget ! 13 refl $ forget ! 15 refl $ forget ! 16 refl $ forget ! 17 refl $ forget ! 18 refl $ forget ! 19 refl $
       subst (λ (k : ℕ). Seq (Go {0}) W (Open ys k (i + 1) []) (prop (post 𝓤 H q next))) (sym more)
-      (subst (λ (l : List Event). Seq (Go {0}) W (Open l (count (i + 1)) (i + 1) []) (prop (post 𝓤 H q next))) (sym same) again)
+      (subst (λ (l : List EventId). Seq (Go {0}) W (Open l (count (i + 1)) (i + 1) []) (prop (post 𝓤 H q next))) (sym same) again)
 
   -- one event more is counted, at the end of the code that runs for it
-  counts-up : (i : ℕ) (ys : List Event) {q q′ : Post 𝓤 H} {v₇ v₈ v₉ v₁₀ v₁₁ v₁₂ v₁₃ v₁₄ v₁₅ v₁₆ v₁₇ : Val} → runsAt time xs i ≡ true → ys ≡ zs (i + 1)
+  counts-up : (i : ℕ) (ys : List EventId) {q q′ : Post 𝓤 H} {v₇ v₈ v₉ v₁₀ v₁₁ v₁₂ v₁₃ v₁₄ v₁₅ v₁₆ v₁₇ : Val} → runsAt time xs i ≡ true → ys ≡ zs (i + 1)
       → i + 1 < 2 ^ 64
       → Seq (Go {0}) W (Open (zs (i + 1)) (count (i + 1)) (i + 1) []) (prop (post 𝓤 H q next))
       → ((Δ : List (Item 𝓤)) → Seq (Go {0}) W Δ (runs (𝓣 .C) (𝓣 .Λ) E (adds-one 6) q) → Seq (Go {0}) W Δ (prop (post 𝓤 H q′ next)))

@@ -29,14 +29,14 @@ use denote.Enum.Laws as EL
 use Rattle.text.specs.Rooms.{listing, afterListing}
 use Rattle.text.proofs.Rooms.{listed-fits, listed-not}
 use Rattle.events.specs.declared.Entry.{Entry}
-use Rattle.events.specs.declared.Event.{Event}
+use Rattle.events.specs.declared.EventId.{EventId}
 use Rattle.events.specs.declared.ListRunning.{ListRunning}
 use Rattle.events.specs.declared.ListRunning.the-variants.{Count, NoRoom}
 use Rattle.events.specs.Running.{running, listAnswer}
 use Rattle.events.proofs.Listing.{running-count}
 use Rattle.events.proofs.ListedRoom.{roomWith, room-length}
 use Rattle.events.proofs.Entry as T
-use Rattle.events.proofs.Event as Y
+use Rattle.events.proofs.EventId as Y
 use Rattle.events.proofs.ListRunning as G
 use Rattle.events.proofs.ListRunning.Laws as G′
 use Rattle.warnbox.proofs.TableTypes.{listed}
@@ -63,7 +63,7 @@ module _ {M : Type 1} (𝓤 : URA M) (H : Heap 𝓤) (A : Atoms 𝓤) (W : Given
     (lists : Triple 𝓤 (𝓣 .C list-def.name) (tripleOf 𝓤 H A list.signature (list.spec 𝓤 H A mem run)))
     (κs : Lfts 2) (qs : Shares 2) (a : Args main.signature κs) (bs : Blocks (code.function .locals))
     (places : Room P (length (now (a .0)))) (full : Room R (length (now (a .1 .0)))) (timely : a .1 .1 .0 < 2 ^ 64) where
-  abbrev rs : List Event
+  abbrev rs : List EventId
   rs = now (a .0)
 
   abbrev xs : List Entry
@@ -97,11 +97,11 @@ module _ {M : Type 1} (𝓤 : URA M) (H : Heap 𝓤) (A : Atoms 𝓤) (W : Given
   lent = ShrSlice (named 1) (κs .1 .0) R .own (a .1 .0) (slice ∷ [])
 
   -- the entries' token, the entries; the room, that it is open, and two notes; then the rest
-  abbrev Open : List Event → List (Item 𝓤) → List (Item 𝓤)
+  abbrev Open : List EventId → List (Item 𝓤) → List (Item 𝓤)
   Open zs Δ = token ∷ ‵ lent ∷ ‵ (elements P (a .0) fullShare zs) ∷ ‵ (opening P (a .0) (κs .0) (qs .0)) ∷ ‵ (noted P (a .0)) ∷ ‵ (known P (a .0)) ∷ Δ
 
   -- local k at k + 6, from local 4 on as said
-  abbrev With : List Event → List Content → List (Item 𝓤)
+  abbrev With : List EventId → List Content → List (Item 𝓤)
   With zs cs = Open zs (frame 𝓤 H E (empty ∷ holds room ∷ holds slice ∷ holds (vint w64 time) ∷ cs) [])
 
   -- ---- a call of `list`: what it is given, and what comes back
@@ -123,7 +123,7 @@ module _ {M : Type 1} (𝓤 : URA M) (H : Heap 𝓤) (A : Atoms 𝓤) (W : Given
       owned ! bool (Is bool) (truth .makes 𝓤 H A W) w (vbool w ∷ []) refl $ fjoin ! $ move ! (2 ∷ 0 ∷ []) $ fjoin ! $
       move ! (2 ∷ 4 ∷ []) $ join ! $ join ! $ k ν δ)
 
-  comes-back : (zs : List Event) {ν m : ℕ} {δ : GName} {F : Fml} {Δ : List (Item 𝓤)} {G : Goal 𝓤 H} → Soaks G → Seq (Go {0}) W (Open zs Δ) G
+  comes-back : (zs : List EventId) {ν m : ℕ} {δ : GName} {F : Fml} {Δ : List (Item 𝓤)} {G : Goal 𝓤 H} → Soaks G → Seq (Go {0}) W (Open zs Δ) G
       → Seq (Go {0}) W (raw (sep 𝓤 (A .lft (ν ∷ []) fullShare) (sep 𝓤 (A .lft (κs .1 .0) (qs .1 .0)) (emp 𝓤))) ∷ ‵
       (fsep (fsep (finally P δ zs) (feq ℕ (length zs) m)) F) ∷ kept ν δ Δ) G
   comes-back zs {ν} z s =
@@ -144,7 +144,7 @@ module _ {M : Type 1} (𝓤 : URA M) (H : Heap 𝓤) (A : Atoms 𝓤) (W : Given
   calls-list : (w : Bool) {os : List Operand} {d : Place} {rest : Body} {q : Post 𝓤 H} {Δ : List (Item 𝓤)}
       → ((ν : ℕ) (δ : GName) → Opds (Go {0}) W (raw (tripleOf 𝓤 H A list.signature (list.spec 𝓤 H A mem run) .pre (ghost ν δ w)) ∷ kept ν δ Δ) E os
       (tripleOf 𝓤 H A list.signature (list.spec 𝓤 H A mem run) .args (ghost ν δ w)))
-      → ((zs : List Event) → zs ≡ roomWith w rs (running time xs) → Seq (Go {0}) W (Open zs Δ) (lands (𝓣 .C) (𝓣 .Λ) E d (vint w64 total) rest q))
+      → ((zs : List EventId) → zs ≡ roomWith w rs (running time xs) → Seq (Go {0}) W (Open zs Δ) (lands (𝓣 .C) (𝓣 .Λ) E d (vint w64 total) rest q))
       → Seq (Go {0}) W (Open rs Δ) (runs (𝓣 .C) (𝓣 .Λ) E (seq (call list-def.name os d) rest) q)
   calls-list w os k = lends w tt (λ ν δ. calls-equal ! 𝓣 list.ended (list.clauses 𝓤 H A mem run) lists (ghost ν δ w) (id⊢ 𝓤 _) (id⊢ 𝓤 _) (number w64) total
       (λ r ws. (r ≡ total) × (ws .0 ≡ roomWith w rs (running time xs))) (λ r ws. id⊢ 𝓤 _) (λ r ws said. said .0) (os ν δ)
@@ -152,7 +152,7 @@ module _ {M : Type 1} (𝓤 : URA M) (H : Heap 𝓤) (A : Atoms 𝓤) (W : Given
 
   -- ---- from the end on
 
-  finish : (r : ListRunning) → Is G.the-row r (listed .spelled .val r ∷ []) → (zs : List Event) → length zs ≡ length rs
+  finish : (r : ListRunning) → Is G.the-row r (listed .spelled .val r ∷ []) → (zs : List EventId) → length zs ≡ length rs
       → (listAnswer r ≡ listing rs (running time xs)) × (zs ≡ afterListing rs (running time xs)) → {v₄ v₇ v₈ : Val}
       → Seq (Go {0}) W (With zs (holds v₄ ∷ empty ∷ empty ∷ holds v₇ ∷ holds v₈ ∷ empty ∷ empty ∷ holds (listed .spelled .val r) ∷ []))
       (runs (𝓣 .C) (𝓣 .Λ) E text.t-8 leaving)
@@ -208,7 +208,7 @@ module _ {M : Type 1} (𝓤 : URA M) (H : Heap 𝓤) (A : Atoms 𝓤) (W : Given
       (λ zs same. lands-in ! 11 refl (tt, record { fits = total-fits }) $
       assigns-last ! (of-opd ! (local ! 11 refl)) (from ! (stop !)) (store ! 10 refl (tt, record { fits = total-fits })) $
       forget ! 11 refl $ forget ! 15 refl $ forget ! 16 refl $
-      rewrite ! 2 (λ (l : List Event). ‵ (elements P (a .0) fullShare l)) same refl $
+      rewrite ! 2 (λ (l : List EventId). ‵ (elements P (a .0) fullShare l)) same refl $
       then _ (decides total (λ h. h) (λ h. h))))
       (λ long. let enough : length xs ≤ length rs = nltb→le (length rs) (length xs) long in
       decides (length xs) (λ h. absurd (not-below h enough)) (λ h. omega (arith, running-count time xs)))

@@ -20,10 +20,10 @@ use denote.Triple.Walked.{stay-dropped, stay-ref, goes-dropped, goes-ref}
 use Rattle.text.specs.Answers.{Answer}
 use Rattle.text.specs.Rooms.{listing, afterListing}
 use Rattle.events.specs.declared.Entry.{Entry}
-use Rattle.events.specs.declared.Event.{Event}
+use Rattle.events.specs.declared.EventId.{EventId}
 use Rattle.events.specs.Running.{running, listAnswer}
 use Rattle.events.proofs.Entry as T
-use Rattle.events.proofs.Event as Y
+use Rattle.events.proofs.EventId as Y
 use Rattle.warnbox.specs.declared.Reply.{Reply}
 use Rattle.warnbox.specs.Replies.{reply}
 use Rattle.warnbox.proofs.Reply as B
@@ -69,7 +69,7 @@ module _ {M : Type 1} (𝓤 : URA M) (H : Heap 𝓤) (A : Atoms 𝓤) (W : Given
         (shared (named 1) (κs .1 .0) R, (number w64 .spelled, (reference (named 2) (κs .1 .1 .0) u64, tt))),
       ))
       (λ κs qs b a g are are-typed.
-      let rs : List Event = now (a .0) in
+      let rs : List EventId = now (a .0) in
       let xs : List Entry = now (a .1 .0) in
       let time : ℕ = a .1 .1 .0 in
       let room : Val = sliceVal (a .0 .ptr) (length rs) in
