@@ -76,7 +76,7 @@ renewed new e = record {
   cancelled = boolByte (new .cancelled);
   «keep_until» = cond (ltb (e .«keep_until») (new .«keep_until»)) (new .«keep_until») (e .«keep_until»);
   timestamp = new .timestamp;
-  expiry = new .expiry;
+  expiry = new .expiry;  -- also where it is smaller
 }
 
 -- "A new event takes the lowest free entry, now used under its key id and event, with any sequence number; its

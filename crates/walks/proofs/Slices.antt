@@ -1,7 +1,7 @@
 -- A slice that is lent, in a walk by hand.
 --     opened, closed   a `&mut [T]` is opened, which gives the row of its elements, and is closed at another list of the same length.        looked,
 --                      shut      the like of a `&[T]`, which gives a share of the row
---     copied           a `&[T]` is had twice
+--     opened-first     a `&mut [T]` is opened with the first of several tokens; the others stay.        copied   a `&[T]` is had twice
 --     given-up         a `&mut [T]` is given up, which leaves what says its last list.        spent    it was given up to a callee
 --     lent-again       a whole row is lent as a `&[T]` for a lifetime ν of its own, until it comes back (`back-again`).        lent-mut, back-mut       the
 --                      like of a `&mut [T]`, which comes back with the callee's last list
@@ -165,3 +165,10 @@ module _ {M : Type 1} {𝓤 : URA M} {H : Heap 𝓤} {A : Atoms 𝓤} {K : Type 
       use2 W (later (‵ (Arr (mem R) (length (now x)) .lies zs (x .ptr .0) (x .ptr .1))))
       (slice-back 𝓤 H A W R (ν ∷ []) δ zs (length (now x)) (x .ptr .0) (x .ptr .1)) $ await t z $ fsplit t $ drop t $
       use1 W (‵ (elements R x fullShare zs)) (whole-out 𝓤 H A W R zs (x .ptr .0) (x .ptr .1)) $ s)
+
+pub opened-first : {M : Type 1} {𝓤 : URA M} {H : Heap 𝓤} {A : Atoms 𝓤} {K : Type 0} {W : Given 𝓤 H A} {Γ : List (Item 𝓤)} {G : Goal 𝓤 H} → K
+    → Soaks G → (R : RattleType) (ℓ : Lifetime) {κ : Lft} {q : Share} {i : Item 𝓤} (x : RefT (List (R .Denot))) (vs : List Val)
+    → Step K W (‵ (elements R x fullShare (now x)) ∷ ‵ (opening R x κ q) ∷ ‵ (noted R x) ∷ ‵ (known R x) ∷ i ∷ Γ) G
+    ((‵ (flft κ q) ⊛ i) ∷ ‵ (MutSlice ℓ κ R .own x vs) ∷ Γ) G
+opened-first t z R ℓ x vs = step (λ s. split t $ nothing t $ move t (1 ∷ 0 ∷ []) $ join t $ nothing t $ move t (3 ∷ 0 ∷ []) $ fjoin t $
+    move t (1 ∷ 0 ∷ []) $ opened t z R ℓ x vs $ s)

@@ -12,7 +12,7 @@ use Rattle.walks.proofs.Locals.{empty, holds, Blocks, Content, envOf, frame, en
 use Rattle.walks.proofs.Types.{number, truth, mutable, shared, typed}
 use Rattle.walks.proofs.Steps.{local, part, sets, resets, lands-in}
 use Rattle.walks.proofs.Calls.{calls-equal, calls-plain, beside}
-use Rattle.walks.proofs.Slices.{opening, noted, known, elements, opened, closed, looked, shut, copied, taken, put-back, put-new}
+use Rattle.walks.proofs.Slices.{opening, noted, known, elements, opened-first, closed, looked, shut, copied, taken, put-back, put-new}
 use Rattle.walks.proofs.Turns.{counted, tests, when}
 use Rattle.walks.proofs.Walked.{others, drops, all-drop, ends, met}
 use mathlib.Core.Bool.{true, _&&_}
@@ -241,9 +241,8 @@ module _ {M : Type 1} (𝓤 : URA M) (H : Heap 𝓤) (A : Atoms 𝓤) (W : Given
       enters ! code.function _ (λ _. are-typed) (λ bs.
       sets ! 5 refl (of-opd ! (lit ! tt)) (tt, record { fits = omega arith }) $ sets ! 6 refl (of-opd ! (lit ! tt)) (tt, record { fits = omega arith }) $
       -- of the parameters, the entries and the room; of the tokens, one for each
-      move ! (43 ∷ []) $ fsplit ! $ move ! (1 ∷ []) $ fsplit ! $ drop ! $ fsplit ! $ move ! (1 ∷ []) $ drop ! $ move ! (44 ∷ []) $ split ! $
-      nothing ! $ move ! (1 ∷ 0 ∷ []) $ join ! $ nothing ! $ move ! (4 ∷ 0 ∷ []) $ fjoin ! $ move ! (1 ∷ 0 ∷ []) $
-      opened ! tt P (named 0) (a .0) (sliceVal (a .0 .ptr) (length (now (a .0))) ∷ []) $ move ! (4 ∷ 5 ∷ []) $
+      move ! (43 ∷ []) $ fsplit ! $ move ! (1 ∷ []) $ fsplit ! $ drop ! $ fsplit ! $ move ! (1 ∷ []) $ drop ! $ move ! (44 ∷ 1 ∷ []) $
+      opened-first ! tt P (named 0) (a .0) (sliceVal (a .0 .ptr) (length (now (a .0))) ∷ []) $ move ! (4 ∷ 5 ∷ []) $
       starts 𝓤 H A W mem run 𝓣 κs qs a bs (counted ! 𝓣 (λ i. Open 𝓤 H A W mem run 𝓣 κs qs a bs (zs 𝓤 H A W mem run 𝓣 κs qs a bs i)
       (count 𝓤 H A W mem run 𝓣 κs qs a bs i) i []) (length (now (a .1 .1 .0)))
       (turn 𝓤 H A W mem run 𝓣 κs qs a bs asks finds names (are .0 .0 .1) (are .1 .1 .0 .0 .1) (are .1 .1 .1 .0 .1)))))

@@ -5,14 +5,14 @@ use Rattle.walks.proofs.Walk.{_≡_, refl, ap, _∙_, _∷_, [], ℕ, _<_, _^_,
 use Rattle.walks.proofs.Walk.{SProp, emp, id⊢, Memory, Routine, Heap, Env, WpFn, Tables, Atoms, Bool}
 use Rattle.walks.proofs.Walk.{Fun, factI, givenOf, tables, tablesOf, Given, Item, ‵, raw, _⊛_, _$_, _∵_, !, Go, Seq, runs, atRet, qed, by, use1, move, keep}
 use Rattle.walks.proofs.Walk.{drop, split, join, fsplit, fjoin, rewrite, whole, sub, look-in, lit, bin, agg, addr, of-opd, store}
-use Rattle.walks.proofs.Walk.{assigns-last, forget, from, fld, hop, stop, and-then, no-more, nothing, owned, Is, now, sliceVal, owns, typesAt, flft, ftrue, fsep}
+use Rattle.walks.proofs.Walk.{assigns-last, forget, from, fld, hop, stop, and-then, no-more, owned, Is, now, sliceVal, owns, typesAt, flft, ftrue, fsep}
 use Rattle.walks.proofs.Walk.{Fml, Triple, Args, Vals, tripleOf, Meets, Lfts, entered, cited, Stays, stay-slice, goes-slice, walkOf, plain, bool, u64}
 use Rattle.walks.proofs.Walk.{arith, ltb→lt, nltb→le, RattleType}
 use Rattle.walks.proofs.Locals.{empty, holds, Blocks, Content, envOf, frame, enters, leaves}
 use Rattle.walks.proofs.Types.{number, truth, mutable, shared, typed}
 use Rattle.walks.proofs.Steps.{local, part, sets, resets, lands-in}
 use Rattle.walks.proofs.Calls.{calls-equal, beside}
-use Rattle.walks.proofs.Slices.{opening, noted, known, elements, opened, closed, copied, lent-mut, back-mut}
+use Rattle.walks.proofs.Slices.{opening, noted, known, elements, opened-first, closed, copied, lent-mut, back-mut}
 use Rattle.walks.proofs.Turns.{when, either}
 use Rattle.walks.proofs.Walked.{others, drops, all-drop, ends, met}
 use mathlib.Core.Bool.{true, false}
@@ -232,9 +232,8 @@ module _ {M : Type 1} (𝓤 : URA M) (H : Heap 𝓤) (A : Atoms 𝓤) (W : Given
       qed W ((‵ (flft (κs .0) (qs .0)) ⊛ (‵ (flft (κs .1 .0) (qs .1 .0)) ⊛ ‵ ftrue)) ∷ ‵ (owns (typesAt (main.signature .params) κs) a at) ∷ []) ∵
       enters ! code.function _ (λ _. are-typed) (λ bs.
       -- of the parameters, the entries and the room; of the tokens, one for each
-      move ! (29 ∷ []) $ fsplit ! $ move ! (1 ∷ []) $ fsplit ! $ move ! (1 ∷ []) $ drop ! $ move ! (30 ∷ []) $ split ! $
-      nothing ! $ move ! (1 ∷ 0 ∷ []) $ join ! $ nothing ! $ move ! (4 ∷ 0 ∷ []) $ fjoin ! $ move ! (1 ∷ 0 ∷ []) $
-      opened ! tt P (named 0) (a .0) (sliceVal (a .0 .ptr) (length (now (a .0))) ∷ []) $ move ! (4 ∷ 5 ∷ []) $
+      move ! (29 ∷ []) $ fsplit ! $ move ! (1 ∷ []) $ fsplit ! $ move ! (1 ∷ []) $ drop ! $ move ! (30 ∷ 1 ∷ []) $
+      opened-first ! tt P (named 0) (a .0) (sliceVal (a .0 .ptr) (length (now (a .0))) ∷ []) $ move ! (4 ∷ 5 ∷ []) $
       compares 𝓤 H A W mem run 𝓣 lists κs qs a bs (are .0 .0 .1) (are .1 .0 .0 .1) (are .1 .1 .0 .1)))
 
 pub list-running-spec : {M : Type 1} → stated.statement M
