@@ -30,12 +30,14 @@ INFO = """  <info>
     <certainty>{certainty}</certainty>
     <expires>2003-06-{day}T16:00:00-07:00</expires>
     <description>{description}</description>
-    <area>
-      <areaDesc>SOUTHWESTERN ALPINE COUNTY IN CALIFORNIA</areaDesc>
-      <polygon>{polygon}</polygon>
-{geocodes}    </area>
-  </info>
+{areas}  </info>
 """
+AREA = """    <area>
+      <areaDesc>SOUTHWESTERN ALPINE COUNTY IN CALIFORNIA</areaDesc>
+{shapes}{geocodes}    </area>
+"""
+POLYGON = "      <polygon>{}</polygon>\n"
+CIRCLE = "      <circle>{:.4f},{:.4f} 5</circle>\n"
 GEOCODE = """      <geocode>
         <valueName>SAME</valueName>
         <value>{:06}</value>
@@ -101,19 +103,35 @@ def comb(pairs):
 
 
 def polygon(points):
-    return " ".join(f"{latitude},{longitude}" for latitude, longitude in points)
+    return POLYGON.format(" ".join(f"{latitude},{longitude}" for latitude, longitude in points))
+
+
+def info(i, description, areas):
+    """The info of a number, with a description and areas; its codes and times change with the number."""
+    return INFO.format(
+        category=("Met", "Safety", "Transport")[i % 3], urgency=("Immediate", "Expected", "Future")[i % 3],
+        severity=("Severe", "Extreme", "Moderate", "Minor")[i % 4], certainty=("Observed", "Likely")[i % 2], day=18 + i % 10,
+        description=description, areas=areas)
 
 
 def alert(infos, sentences, points, geocodes):
     """An alert of that many infos, each with a description of that many sentences, a polygon and that many geocodes."""
     text = itertools.cycle(SENTENCES)
     return ALERT.format(infos="".join(
-        INFO.format(
-            category=("Met", "Safety", "Transport")[i % 3], urgency=("Immediate", "Expected", "Future")[i % 3],
-            severity=("Severe", "Extreme", "Moderate", "Minor")[i % 4], certainty=("Observed", "Likely")[i % 2], day=18 + i % 10,
-            description="\n".join(next(text) for _ in range(sentences)), polygon=polygon(points),
-            geocodes="".join(GEOCODE.format(6_000 + 7 * i + j) for j in range(geocodes)))
+        info(i, "\n".join(next(text) for _ in range(sentences)),
+             AREA.format(shapes=polygon(points), geocodes="".join(GEOCODE.format(6_000 + 7 * i + j) for j in range(geocodes))))
         for i in range(infos))).encode()
+
+
+def area(latitude):
+    """An area with two polygons and two circles side by side, from 20 to 23 east."""
+    rings = "".join(polygon(star(6, latitude, longitude, lambda a: 0.1)) for longitude in (20, 21))
+    return AREA.format(shapes=rings + CIRCLE.format(latitude, 22) + CIRCLE.format(latitude, 23), geocodes="")
+
+
+def many_areas(count):
+    """An alert of one info with that many areas, from 10 north on, a quarter of a degree apart, so that no two shapes hold the same place."""
+    return ALERT.format(infos=info(0, SENTENCES[0], "".join(area(10 + i / 4) for i in range(count)))).encode()
 
 
 def largest(limit, make):
@@ -151,6 +169,12 @@ def main(folder):
         assert len(document) <= LIMIT, len(document)
         write(name + ".xml", document)
         write(name + ".wkt", ("POLYGON ((" + ", ".join(f"{longitude} {latitude}" for latitude, longitude in points) + "))").encode())
+
+    # areas with shapes
+    for count in (16, 128):
+        document = many_areas(count)
+        assert len(document) <= LIMIT, len(document)
+        write(f"areas-{count}.xml", document)
 
     # a packet of key 21 and event 7 with sequence number 2, of the least length
     head = b"WARN" + struct.pack(">BBHQIHH6BQQQiiH", 1, 0, 0x8000, 1_000_000, 7, 2, 60, 1, 0, 3, 2, 1, 0, 1_000_000, 1_003_900, 1_000_000,

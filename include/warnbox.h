@@ -31,7 +31,7 @@ extern "C" {
 #endif
 
 /* Major times 10,000, minor times 100 and patch; warnbox_version gives that of the archive. */
-#define WARNBOX_VERSION 20000
+#define WARNBOX_VERSION 20100
 uint32_t warnbox_version(void);
 
 /* in bytes */
@@ -39,7 +39,7 @@ uint32_t warnbox_version(void);
 #define WARNBOX_LONGEST_DOCUMENT 65536
 #define WARNBOX_LONGEST_PACKET 1200
 #define WARNBOX_LONGEST_NAME 64 /* of a refusal */
-#define WARNBOX_STACK 4096
+#define WARNBOX_STACK 4352
 /* parts of a document */
 #define WARNBOX_MOST_PARTS 16
 
@@ -160,6 +160,16 @@ uint8_t warnbox_read_back(const uint8_t *text, size_t text_length, size_t k, str
 /* ---- CAP documents */
 
 enum warnbox_side { WARNBOX_OUTSIDE = 0, WARNBOX_INSIDE = 1, WARNBOX_NO_SHAPE = 2 };
+enum warnbox_shape { WARNBOX_POLYGON = 1, WARNBOX_CIRCLE = 2 };
+
+/* Why a part says inside: the first area, and in it the first polygon or else the first circle, that holds the place, each counted from 1; or how many
+ * shapes (polygons and circles) it has, where it says outside. What isn't said is 0. */
+struct warnbox_why {
+    size_t area;  /* inside: among all areas of the part, also those without shapes */
+    size_t kind;  /* inside: an enum warnbox_shape */
+    size_t shape; /* inside: among the area's polygons for a polygon, among its circles for a circle */
+    size_t count; /* outside: all shapes of the part */
+};
 
 /* Checks a document. *value: its number of parts, 0 to 16. Refusals: 14 to 19 and 22. */
 uint8_t warnbox_check_document(const uint8_t *document, size_t document_length, size_t *value);
@@ -177,6 +187,11 @@ uint8_t warnbox_document_sheet(const uint8_t *document, size_t document_length, 
  * polygons lie on the flat grid. *value: an enum warnbox_side. Refusals: the document's own, then 21, 6. */
 uint8_t warnbox_document_place(const uint8_t *document, size_t document_length, size_t part, int32_t latitude, int32_t longitude,
                                size_t *value);
+
+/* Whether a place lies inside a part, and why: the shape that is named holds the place, and none before it does. *value: an enum warnbox_side, the one
+ * that warnbox_document_place tells. Refusals: the document's own, then 21, 6. */
+uint8_t warnbox_document_why(const uint8_t *document, size_t document_length, size_t part, int32_t latitude, int32_t longitude,
+                             struct warnbox_why *why, size_t *value);
 
 /* ---- WARN packets: every refusal's offset is 0 */
 
@@ -279,6 +294,10 @@ WARNBOX_ASSERT(sheet_size, sizeof(size_t) != 8 || sizeof(struct warnbox_sheet) =
 WARNBOX_ASSERT(sheet_facts, offsetof(struct warnbox_sheet, facts) == 8);
 WARNBOX_ASSERT(cap_sender, offsetof(struct warnbox_cap, sender_start) == 10 * 8);
 WARNBOX_ASSERT(warn_size, sizeof(struct warnbox_warn) == 14 * 8);
+WARNBOX_ASSERT(why_size, sizeof(size_t) != 8 || sizeof(struct warnbox_why) == 32);
+WARNBOX_ASSERT(why_kind, offsetof(struct warnbox_why, kind) == sizeof(size_t));
+WARNBOX_ASSERT(why_shape, offsetof(struct warnbox_why, shape) == 2 * sizeof(size_t));
+WARNBOX_ASSERT(why_count, offsetof(struct warnbox_why, count) == 3 * sizeof(size_t));
 WARNBOX_ASSERT(packet_size, sizeof(size_t) != 8 || sizeof(struct warnbox_packet) == 112);
 WARNBOX_ASSERT(packet_tlv, offsetof(struct warnbox_packet, tlv) == 32);
 WARNBOX_ASSERT(packet_event, sizeof(size_t) != 8 || offsetof(struct warnbox_packet, event) == 80);

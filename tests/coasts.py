@@ -8,8 +8,7 @@ import itertools
 import os
 import sys
 
-sys.path.insert(0, os.path.join(os.path.dirname(os.path.abspath(__file__)), "model"))
-import model02 as model
+from places import answers
 
 PAIRS = 6_000
 STEP = 5  # between two pairs, in 1e-3 degree of longitude
@@ -53,8 +52,7 @@ def main(folder):
             with open(os.path.join(folder, name + ".xml"), "wb") as file:
                 file.write(document)
             for latitude, longitude in places():
-                y, x = model._pair(f"{latitude},{longitude}".encode())
-                print(name, latitude, longitude, model.cap_place(document, 1, y, x)[0], file=questions)
+                print(name, latitude, longitude, answers(document, latitude, longitude), file=questions)
 
 
 if __name__ == "__main__":

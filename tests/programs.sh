@@ -32,9 +32,10 @@ for packet in tests/vectors/*.hex; do
     expect "$packet" "${packet%.hex}.out" "$got"
 done
 
-# ask FOLDER: lines of FOLDER/places.txt: DOCUMENT LATITUDE LONGITUDE ANSWER, with "/" for a line's end in the answer
+# ask FOLDER: lines of FOLDER/places.txt: DOCUMENT LATITUDE LONGITUDE ANSWER, with "/" for a line's end in the answer; or "#" and what is said about them
 ask() {
     while read -r document latitude longitude answer; do
+        [ "$document" != "#" ] || continue
         target/bin/inside "$latitude" "$longitude" <"$1/$document.xml" >"$got"
         echo "$answer" | tr / '\n' >"$wanted"
         expect "$document $latitude $longitude" "$wanted" "$got"

@@ -20,6 +20,7 @@ FREE_TEXTS = [b"", b"Storm", b"en-US", b"a &amp; b &lt;c&gt; &apos;d&apos; &quot
 COMMENTS = [b"<!---->", b"<!-- a -->", b"<!---a-->", b"<!-- <info> ' \" & ]]> -->", b"<!--\xff\n\t- -->", b"<!-- a - b -->"]
 DECLARATIONS = [b'<?xml version="1.0" encoding="UTF-8"?>', b"<?xml ?>", b"<?xml\n'?>", b"<?xml " + b"x" * 120 + b"?>", b"<?xml\t<&>-- ?>"]
 RICHNESS = {"area": 75, "polygon": 55, "circle": 40}  # percent of containers with the element; others differ by alert
+CROWDED = {"area": 95, "polygon": 70, "circle": 60}   # the same in an alert with a crowd of shapes
 LETTERS = "abcdefghijklmnopqrstuvwxyzABCDEFGHIJKLMNOPQRSTUVWXYZ"
 
 
@@ -92,6 +93,7 @@ class Writer:
         self.richness = rng.choice((3, 20, 60)) if parts < 5 else rng.choice((1, 10))
         self.spread = rng.choice((0, 0, 3, 30))  # percent of gaps with white space or a comment
         self.sent = moment(rng)
+        self.crowd = shapes.crowd(rng) if parts < 5 and chance(rng, 45) else None
         self.times = None
 
     def qualified(self, name):
@@ -130,9 +132,9 @@ class Writer:
         if element in model.TIMES:
             return self.times.texts[element]
         if element == "polygon":
-            return shapes.polygon_text(rng, shapes.polygon(rng))
+            return shapes.polygon_text(rng, shapes.polygon(rng, self.crowd))
         if element == "circle":
-            return shapes.circle_text(rng, shapes.circle(rng))
+            return shapes.circle_text(rng, shapes.circle(rng, self.crowd))
         return rng.choice(FREE_TEXTS)
 
     def how_many(self, element, least, most):
@@ -140,10 +142,10 @@ class Writer:
             return self.parts
         if element in ("effective", "onset", "expires"):
             return int(element in self.times.texts)
-        richness = RICHNESS.get(element, self.richness)
+        richness = (CROWDED if self.crowd else RICHNESS).get(element, self.richness)
         count = least + (1 if chance(self.rng, richness) else 0)
         if most is None:
-            while chance(self.rng, richness / 3):
+            while chance(self.rng, richness / (1.5 if self.crowd and element in CROWDED else 3)):
                 count += 1
             return count
         return min(count, most)

@@ -55,6 +55,11 @@ def any_sheet(rng):
     return library.SHEET.unpack(rng.randbytes(library.SHEET.size))
 
 
+def any_reason(rng):
+    """What a reason may hold before it is given."""
+    return library.WHY.unpack(rng.randbytes(library.WHY.size))
+
+
 def any_parts(rng):
     """What a packet's parts may hold before they are given."""
     return library.PACKET.unpack(rng.randbytes(library.PACKET.size))

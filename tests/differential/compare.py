@@ -16,6 +16,7 @@ import text_calls
 
 KINDS = {"documents": document_calls, "packets": packet_calls, "tables": table_calls, "sheets": sheet_calls, "texts": text_calls}
 PLACE_ANSWERS = ("outside", "inside", "no shape")
+KINDS_OF_SHAPES = ("polygon", "circle")
 SHOWN = 160  # bytes of an argument that are printed
 
 Difference = collections.namedtuple("Difference", "case call function arguments library model")
@@ -73,7 +74,20 @@ def answer(function, outcome):
     """The answer under which a call is counted: the refusal's number, or what the model answers."""
     if outcome[0] != 0:
         return str(outcome[0])
+    if function == "document_why":
+        return reason(PLACE_ANSWERS[outcome[1]], *outcome[2])
     return PLACE_ANSWERS[outcome[1]] if function.endswith("_place") else "0"
+
+
+def reason(side, area, kind, shape, count):
+    """The shape that is named, or how many there are, where all numbers above 1 count as 2+."""
+    if side == "inside":
+        return f"area {one_or_more(area)} {KINDS_OF_SHAPES[kind - 1]} {one_or_more(shape)}"
+    return f"outside of {one_or_more(count)}" if side == "outside" else side
+
+
+def one_or_more(number):
+    return "1" if number == 1 else "2+"
 
 
 # ---- saying what differs

@@ -1,4 +1,4 @@
-"""Calls about CAP documents: checked, asked for sentences and sheets, asked about places."""
+"""Calls about CAP documents: checked, asked for sentences and sheets, asked about places and why they are inside or outside."""
 import os
 import sys
 
@@ -22,7 +22,7 @@ def case(rng):
     document = pick(rng)
     yield "check_document", (document,)
     alert = expected.alert_of(document)
-    sentences, places = (rng.randint(2, 5), rng.randint(4, 10)) if alert else (1, 1)
+    sentences, places, reasons = (rng.randint(2, 5), rng.randint(2, 6), rng.randint(5, 11)) if alert else (1, 1, 1)
     for _ in range(sentences):
         part = pick_part(rng, alert)
         yield "document_sentence", (*choices.room(rng, sentence_length(document, part)), document, part)
@@ -33,6 +33,9 @@ def case(rng):
     for _ in range(places):
         part = pick_part(rng, alert)
         yield "document_place", (document, part, *pick_place(rng, alert, part))
+    for _ in range(reasons):
+        part = pick_part(rng, alert)
+        yield "document_why", (document, part, *pick_place(rng, alert, part), choices.any_reason(rng))
 
 
 def pick(rng):

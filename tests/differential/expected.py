@@ -16,6 +16,7 @@ SEQUENCES, CODES = model.SEQUENCES["1.2"], model.CODES["1.2"]
 
 CAP, WARN = 1, 2
 PLACES = {"outside": 0, "inside": 1, "noshape": 2}
+SHAPES = {"polygon": 1, "circle": 2}
 
 # Codes in the order of the header, which numbers them from 1.
 MESSAGES = ("alert", "update", "cancel", "ack", "error")
@@ -27,7 +28,7 @@ CERTAINTIES = ("observed", "likely", "possible", "unlikely", "unknown")
 
 OUT_OF_RANGE = -1  # no fact of a sheet may be this
 
-VERSION = 20_000
+VERSION = 20_100
 NAMES = {1: b"packet too short", 2: b"not a WARN packet", 3: b"version not known", 4: b"not an alert", 5: b"packet too long",
          6: b"place out of range", 7: b"lasting time out of range", 8: b"key not listed", 9: b"signature not verified",
          10: b"sequence number not above the stored one", 11: b"no free entry in the table", 12: b"clock too late", 13: b"no room in the buffer",
@@ -131,6 +132,19 @@ def document_sheet(document, part, sheet):
 
 def document_place(document, part, latitude, longitude):
     return asked(model.cap_place(document, part, latitude, longitude))
+
+
+def document_why(document, part, latitude, longitude, reason):
+    answer = model.why(document, part, latitude, longitude)
+    return *asked(answer), reason if refused(answer) else reason_of(*answer), True
+
+
+def reason_of(side, *told):
+    """The header's numbers for a reason."""
+    if side == "inside":
+        area, kind, shape = told
+        return area, SHAPES[kind], shape, 0
+    return 0, 0, 0, told[0] if side == "outside" else 0
 
 
 # ---- WARN packets

@@ -36,8 +36,9 @@ ENTRY_FIELDS = "B3xIIHBxQQQ"
 ENTRY = struct.Struct("<" + ENTRY_FIELDS)
 EVENT = struct.Struct("<2I")
 SHEET = struct.Struct("<15Q")             # kind, then 14 numbers for either kind
+WHY = struct.Struct("<4Q")                # area, kind, shape, count
 PACKET = struct.Struct("<4Q6Q2I2i3H10B")  # four times, three spans, numbers, flags and codes
-assert (ENTRY.size, EVENT.size, SHEET.size, PACKET.size) == (40, 8, 120, 112)
+assert (ENTRY.size, EVENT.size, SHEET.size, WHY.size, PACKET.size) == (40, 8, 120, 32, 112)
 
 
 def packed(table):
@@ -89,6 +90,7 @@ class Library:
         self.keys = Lent("the keys", TABLE_ROOM)
         self.events = Lent("the room for events", TABLE_ROOM)
         self.sheet = Lent("the sheet", SHEET.size)
+        self.reason = Lent("the reason", WHY.size)
         self.parts = Lent("the packet's parts", PACKET.size)
         self.declare()
 
@@ -106,6 +108,7 @@ class Library:
             "document_sentence": (byte, at, size, size, at, size, size, at),
             "document_sheet": (byte, at, size, size, at, at),
             "document_place": (byte, at, size, size, degrees, degrees, at),
+            "document_why": (byte, at, size, size, degrees, degrees, at, at),
             "read_packet": (byte, at, size, at),
             "packet_sentence": (byte, at, size, size, at, size, at),
             "packet_sheet": (byte, at, size, at),
@@ -157,6 +160,14 @@ class Library:
             self.text.lend(document), len(document), part, latitude, longitude, self.value.lend(UNSET))
         self.text.unchanged()
         return number, self.told()
+
+    def document_why(self, document, part, latitude, longitude, reason):
+        """The last of what it gives is whether document_place says the same number and value."""
+        number = self.functions.warnbox_document_why(
+            self.text.lend(document), len(document), part, latitude, longitude, self.reason.lend(WHY.pack(*reason)), self.value.lend(UNSET))
+        self.text.unchanged()
+        told, left = (number, self.told()), WHY.unpack(self.reason.left())
+        return *told, left, told == self.document_place(document, part, latitude, longitude)
 
     # ---- WARN packets
 

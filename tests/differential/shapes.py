@@ -32,10 +32,18 @@ def centre(rng):
     return rng.randint(-LATITUDE, LATITUDE), rng.randint(-LONGITUDE, LONGITUDE)
 
 
-def polygon(rng):
+def crowd(rng):
+    """Where shapes lie close together, so that several hold the same places: their middle, and the grain of their distances."""
+    return *centre(rng), rng.choice(GRAINS)
+
+
+def polygon(rng, its_crowd=None):
     """At least 4 pairs, the last equal to the first."""
     count = rng.choice((3, 3, 4, 4, 5, 6, 8, rng.randint(3, 40)))
-    vertices = rng.choice((spread_vertices, near_vertices, near_vertices, near_vertices, level_vertices))(rng, count)
+    if its_crowd and chance(rng, 85):
+        vertices = crowd_vertices(rng, count, *its_crowd)
+    else:
+        vertices = rng.choice((spread_vertices, near_vertices, near_vertices, near_vertices, level_vertices))(rng, count)
     return vertices + vertices[:1]
 
 
@@ -47,8 +55,10 @@ def spread_vertices(rng, count):
 
 def near_vertices(rng, count):
     """Of few latitudes and longitudes, so that edges are often flat, upright, shared or crossed."""
-    latitude, longitude = centre(rng)
-    grain = rng.choice(GRAINS)
+    return crowd_vertices(rng, count, *crowd(rng))
+
+
+def crowd_vertices(rng, count, latitude, longitude, grain):
     steps = rng.choice((2, 3, 5, 9, 60))
     return [(clamp(latitude + grain * rng.randint(-steps, steps), LATITUDE), clamp(longitude + grain * rng.randint(-steps, steps), LONGITUDE))
             for _ in range(count)]
@@ -62,7 +72,9 @@ def level_vertices(rng, count):
             for _ in range(count)]
 
 
-def circle(rng):
+def circle(rng, its_crowd=None):
+    if its_crowd and chance(rng, 85):
+        return crowd_circle(rng, *its_crowd)
     latitude, longitude = centre(rng)
     kind = rng.randrange(5)
     if kind == 0:
@@ -72,6 +84,11 @@ def circle(rng):
     else:
         metres = rng.randint(0, rng.choice((100, 10_000, 1_000_000)))
     return latitude, longitude, metres
+
+
+def crowd_circle(rng, latitude, longitude, grain):
+    metres = grain * rng.randint(0, 9) // 90  # 90 units are a metre, or nearly so
+    return clamp(latitude + grain * rng.randint(-5, 5), LATITUDE), in_turn(longitude + grain * rng.randint(-5, 5)), metres
 
 
 # ---- as texts

@@ -1,11 +1,17 @@
 -- Every loop over a document: what is still to be answered, from its step and the facts gathered so far, is the whole document's answer.
 use mathlib.Core.Path.{_≡_, refl, sym, ap, _∙_}
 use mathlib.Core.List.{List, [], _∷_, _++_}
-use Prim.Native.Nat.{ℕ, suc, _+_, _-_, _<_}
+use Prim.Native.Nat.{ℕ, suc, _+_, _-_, _<_, _≤_}
 use native.Mathlib.Omega.{arith}
+use borrow.Author.Tests.{ltb-false}
+use lib.Dec.{ltb}
 use lib.ListN.{length}
 use Rattle.text.specs.Parts.{part}
 use Rattle.text.specs.Answers.{Answer, gives, refuses, giving}
+use Rattle.text.specs.Logic.{cond-cases}
+use Rattle.xml.specs.declared.Prolog.{Prolog}
+use Rattle.xml.specs.declared.Prolog.the-variants as prolog
+use Rattle.xml.specs.Opening as opening
 use Rattle.document.specs.declared.Mode.{Mode}
 use Rattle.document.specs.declared.Event.{Event}
 use Rattle.document.specs.declared.Event.the-variants.{Silent, Opened, Text, Closed}
@@ -13,7 +19,7 @@ use Rattle.document.specs.declared.Step.{Step}
 use Rattle.document.specs.declared.Step.the-variants.{Next, Done, Refused}
 use Rattle.document.specs.Elements.{Element, opened, text, closed, given, starts, total, fold, counted, gather, answer}
 use Rattle.document.specs.Constructs.{stepOf}
-use Rattle.document.specs.Documents.{elementsOf, firstStep, after, readFrom, documentOf, checkOf}
+use Rattle.document.specs.Documents.{elementsOf, maxLength, prologStep, firstStep, after, readFrom, documentOf, checkOf}
 use Rattle.document.proofs.Events.{SoundStep, step-sound}
 use Rattle.document.proofs.Runs.{first-holds, read-step}
 
@@ -35,6 +41,17 @@ left-less l m e step step′ p q = rw (p, q) (go (stepOf l m) (step-sound l m))
     go (Next m′ e) o = omega (arith, o .later, o .within)
     go Done h = omega arith
     go (Refused n q) h = omega arith
+
+-- a document that is read has no more bytes than it may have
+pub first-left : (l : List ℕ) → left l (firstStep l) ≤ suc maxLength
+unfolding firstStep
+first-left l =
+    cond-cases (λ (r : Step). left l r ≤ suc maxLength) (ltb maxLength (length l)) _ _ (λ e. omega arith)
+    (λ e. go (opening.prolog l) (ltb-false maxLength (length l) e))
+  where
+    go : (r : Prolog) → length l ≤ maxLength → left l (prologStep r) ≤ suc maxLength
+    go (prolog.After at) h = omega (arith, h)
+    go (prolog.Fault p) h = omega arith
 
 -- the mode after a step counts the infos, of which k have started before the step's event
 abbrev Counts : List ℕ → ℕ → Step → Type 0

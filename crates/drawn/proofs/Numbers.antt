@@ -1,6 +1,6 @@
--- The numbers with which a sheet and the answer for a place are refused: the document's own, then 21 and 7, or 21 and 6; none is 0.
+-- The numbers with which a sheet and the answers about a place are refused: the document's own, then 21 and 7, or 21 and 6; none is 0.
 use mathlib.Core.Path.{_≡_, refl, subst}
-use mathlib.Core.Bool.{Bool, cond, _&&_, _||_}
+use mathlib.Core.Bool.{cond, _&&_, _||_}
 use mathlib.Core.List.{List, _∷_}
 use mathlib.Core.Logic.{inl, inr}
 use Prim.Native.Nat.{ℕ}
@@ -22,7 +22,9 @@ use Rattle.document.proofs.Numbers.{documentNumbers}
 use Rattle.document.proofs.Accepted.{refusal-numbers}
 use Rattle.parts.specs.Elements.{alertOf, partOf, lookUp, textSpan}
 use Rattle.parts.specs.Sheets.{startOf, between, lastsFrom, lastsOf, sheetWith, partsOf, sheetOfPart, capSheet}
-use Rattle.parts.specs.Places.{sideOf, anyShape, anyHolds, placedInPart, capPlace}
+use Rattle.parts.specs.Areas.{areasOf}
+use Rattle.parts.specs.Places.{sideOf, anyShape, anyHolds, askedAbout, capPlace}
+use Rattle.parts.specs.Reasons.{reasonIn, capWhy}
 
 -- the number is in the list, where an answer is refused
 abbrev Refused : {A : Type 0} → List ℕ → Answer A → Type 0
@@ -74,7 +76,7 @@ parts-refused l t alert part k =
     giving-refused sheetNumbers _ (lastsOf l alert part)
     (lasts-refused (startOf (timeOf (spanIn l (part class.effective))) (timeOf (spanIn l (alert class.sent)))) (timeOf (spanIn l (part class.expires)))))
 
--- ---- the two answers
+-- ---- the answers
 
 module _ (n : ℕ) (l : List ℕ) where
   pub sheet-numbers : (k q : ℕ) → capSheet n l ≡ refuses k q → OneOf sheetNumbers k
@@ -91,16 +93,23 @@ module _ (n : ℕ) (l : List ℕ) where
           (then-refused sheetNumbers (lookUp n (total es)) ps (lookup-refused sheetNumbers (inl refl) n (total es))
           (parts-refused l (total es) (textSpan (alertOf es)) (textSpan (partOf n es))))
 
+  -- whatever is asked about a place
+  asked-numbers :
+      {A : Type 0} (p : Place) (f : List Element → A) (k q : ℕ)
+      → andThen (documentOf l) (λ es. askedAbout p n (total es) (f es)) ≡ refuses k q → OneOf placeNumbers k
+  asked-numbers p f k q e =
+      subst (Refused placeNumbers) e (document-refused placeNumbers (λ k t. inr (inr t)) l (λ es. askedAbout p n (total es) (f es)) part)
+    where
+      part : (es : List Element) → Refused placeNumbers (askedAbout p n (total es) (f es))
+      part es =
+          then-refused placeNumbers (lookUp n (total es)) (λ (k : ℕ). cond (inRange p) (gives (f es)) (refuses 6 0))
+          (lookup-refused placeNumbers (inl refl) n (total es))
+          (λ k. cond-cases (Refused placeNumbers) (inRange p) (gives (f es)) (refuses 6 0) (λ b. tt) (λ b. inr (inl refl)))
+
   pub place-numbers : (p : Place) (k q : ℕ) → capPlace n p l ≡ refuses k q → OneOf placeNumbers k
   unfolding capPlace
-  place-numbers p k q e =
-      subst (Refused placeNumbers) e
-      (document-refused placeNumbers (λ k t. inr (inr t)) l
-      (λ es. placedInPart p n (total es) (anyHolds p (partOf n es)) (anyShape (partOf n es)))
-      (λ es. part es (anyHolds p (partOf n es)) (anyShape (partOf n es))))
-    where
-      part : (es : List Element) (holds any : Bool) → Refused placeNumbers (placedInPart p n (total es) holds any)
-      part es holds any =
-          then-refused placeNumbers (lookUp n (total es)) (λ (k : ℕ). cond (inRange p) (gives (sideOf holds any)) (refuses 6 0))
-          (lookup-refused placeNumbers (inl refl) n (total es))
-          (λ k. cond-cases (Refused placeNumbers) (inRange p) (gives (sideOf holds any)) (refuses 6 0) (λ b. tt) (λ b. inr (inl refl)))
+  place-numbers p = asked-numbers p (λ es. sideOf (anyHolds p (partOf n es)) (anyShape (partOf n es)))
+
+  pub why-numbers : (p : Place) (k q : ℕ) → capWhy n p l ≡ refuses k q → OneOf placeNumbers k
+  unfolding capWhy
+  why-numbers p = asked-numbers p (λ es. reasonIn p (areasOf (partOf n es)))

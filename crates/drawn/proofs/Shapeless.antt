@@ -1,6 +1,6 @@
 -- Part 0 has no shape: no polygon and no circle stands in an alert before its first info.
-use mathlib.Core.Path.{_≡_, refl, sym}
-use mathlib.Core.Bool.{Bool, true, false, cond, not, _&&_, _||_, false≢true}
+use mathlib.Core.Path.{_≡_, refl}
+use mathlib.Core.Bool.{Bool, true, false, cond, not, _&&_, _||_}
 use mathlib.Core.List.{List, [], _∷_}
 use Prim.Native.Nat.{ℕ}
 use native.Mathlib.Omega.{arith}
@@ -19,7 +19,8 @@ use Rattle.document.proofs.Accepted.{Every}
 use Rattle.document.proofs.Sound.{Sorted}
 use Rattle.parts.specs.Elements.{alertOf, lookUp}
 use Rattle.parts.specs.Places.{isShape, shapeHolds, anyText, anyShape, anyHolds, noShape, capPlace}
-use Rattle.drawn.proofs.Standing.{classOf, in-alert}
+use Rattle.parts.proofs.Standing.{classOf, Ends, in-alert}
+use Rattle.parts.proofs.Sights.{no-shape}
 
 abbrev NoShape : Element → Type 0
 NoShape (opened c p) = Prim.Unit
@@ -48,13 +49,13 @@ module _ (t : Fronts) where
   Q s xs = ltb s (firstState class.info) ≡ true → Every NoShape xs
 
   at-element :
-      (s : ℕ) (x : Element) (es : List Element) → isStart class.info x ≡ false → Sorted x → (nextOf s (classOf x) ≡ 0 → ⊥)
+      (s : ℕ) (x : Element) (es : List Element) → isStart class.info x ≡ false → Sorted x → Ends s x → (nextOf s (classOf x) ≡ 0 → ⊥)
       → Q (nextOf s (classOf x)) es → Q s (x ∷ es)
   unfolding Q
-  at-element s (opened d p) es e o n q h = (tt, q (front s d n e h .0))
-  at-element s (text d p u) es e o n q h =
-      let f = front s d n (ne-eqb d class.info (λ z. omega (arith, o, z))) h in (f .1, q (f .0))
-  at-element s (closed d) es e o n q h = (tt, q (front s 0 n refl h .0))
+  at-element s (opened d p) es e o z n q h = (tt, q (front s d n e h .0))
+  at-element s (text d p u) es e o z n q h =
+      let f = front s d n (ne-eqb d class.info (λ y. omega (arith, o, y))) h in (f .1, q (f .0))
+  at-element s (closed d) es e o z n q h = (tt, q (front s 0 n refl h .0))
 
   alert-none : (l : List ℕ) (es : List Element) → documentOf l ≡ gives es → Every NoShape (alertOf es)
   unfolding Q
@@ -68,11 +69,6 @@ any-none is f (opened c p ∷ xs) h = any-none is f xs (h .1)
 any-none is f (text c p t ∷ xs) h = rw (f c t (h .0)) (any-none is f xs (h .1))
 any-none is f (closed c ∷ xs) h = any-none is f xs (h .1)
 
-no-holds : (p : Place) (c : ℕ) (t : List ℕ) → isShape c ≡ false → shapeHolds p c t ≡ false
-no-holds p c t h =
-    by-test (eqb c class.polygon) (λ e. absurd (false≢true (sym (rw e at h)))) λ e.
-    rw e (by-test (eqb c class.circle) (λ f. absurd (false≢true (sym (rw (e, f) at h)))) (λ f. rw f))
-
 -- "or no shape .., as part 0 never has"; it is there only where there are no parts
 pub part-0-no-shape :
     (l : List ℕ) (es : List Element) → documentOf l ≡ gives es → (p : Place)
@@ -81,5 +77,5 @@ unfolding capPlace lookUp nextOf containerOf Fronts
 part-0-no-shape l es d p =
     let n = alert-none tt l es d in
     let a : anyShape (alertOf es) ≡ false = any-none (λ c t. isShape c) (λ c t h. h) (alertOf es) n in
-    let h : anyHolds p (alertOf es) ≡ false = any-none (shapeHolds p) (no-holds p) (alertOf es) n in
+    let h : anyHolds p (alertOf es) ≡ false = any-none (shapeHolds p) (no-shape p) (alertOf es) n in
     rw (d, a, h) (by-test (eqb (total es) 0) (λ e. rw e) (λ e. rw e))

@@ -1,20 +1,26 @@
-// Reads one CAP document from standard input and writes for each part whether the place given as arguments is inside it.
+// Reads one CAP document from standard input and writes for each part whether the place given as arguments is inside it, and why.
 use coordinates::Degrees;
 use coordinates::Place;
 use document::Check;
 use input::Ending;
 use libc::STDOUT_FILENO;
-use parts::CapPlace;
+use parts::CapWhy;
+use parts::ShapeAt;
+use parts::ShapeKind;
 
 fn print(text: &[u8]) {
     io::write_all(STDOUT_FILENO, text);
 }
 
+fn print_number(n: u64) {
+    io::print_decimal(STDOUT_FILENO, n);
+}
+
 fn print_refusal(number: u64, offset: u64) {
     print(b"refused ");
-    io::print_decimal(STDOUT_FILENO, number);
+    print_number(number);
     print(b" at ");
-    io::print_decimal(STDOUT_FILENO, offset);
+    print_number(offset);
     print(b"\n");
 }
 
@@ -24,16 +30,45 @@ fn print_usage() {
     );
 }
 
+fn print_kind(kind: ShapeKind) {
+    match kind {
+        ShapeKind::Polygon => print(b"polygon "),
+        ShapeKind::Circle => print(b"circle "),
+    }
+}
+
+// Writes which shape holds the place.
+fn print_inside(shape: ShapeAt) {
+    let kind = shape.kind;
+    print(b"inside: area ");
+    print_number(shape.area as u64);
+    print(b", ");
+    print_kind(kind);
+    print_number(shape.position as u64);
+    print(b"\n");
+}
+
+// Writes how many shapes there are, none of which holds the place.
+fn print_outside(count: usize) {
+    print(b"outside: ");
+    print_number(count as u64);
+    if count == 1 {
+        print(b" shape\n");
+    } else {
+        print(b" shapes\n");
+    }
+}
+
 // Writes the answer of a part.
 fn print_part(document: &[u8], part: usize, place: Place) {
-    let answer = parts::cap_place(document, part, place);
+    let answer = parts::cap_why(document, part, place);
     match answer {
-        CapPlace::Inside => print(b"inside\n"),
-        CapPlace::Outside => print(b"outside\n"),
-        CapPlace::NoShape => print(b"no shape\n"),
-        CapPlace::NotThere => print_refusal(21, 0),
-        CapPlace::OutOfRange => print_refusal(6, 0),
-        CapPlace::Refused(number, offset) => print_refusal(number as u64, offset as u64),
+        CapWhy::Inside(shape) => print_inside(shape),
+        CapWhy::Outside(count) => print_outside(count),
+        CapWhy::NoShape => print(b"no shape\n"),
+        CapWhy::NotThere => print_refusal(21, 0),
+        CapWhy::OutOfRange => print_refusal(6, 0),
+        CapWhy::Refused(number, offset) => print_refusal(number as u64, offset as u64),
     }
 }
 

@@ -1,6 +1,6 @@
 -- What is kept while a document is read is what the definitions say of its elements, for any list of elements.
 use mathlib.Core.Path.{_≡_, refl, sym, ap, _∙_}
-use mathlib.Core.Bool.{Bool, true, false, cond, _&&_, _||_, false≢true}
+use mathlib.Core.Bool.{Bool, true, false, cond, _&&_, false≢true}
 use mathlib.Core.List.{List, [], _∷_}
 use Prim.Native.Nat.{ℕ, _+_, _-_, _≤_, _<_}
 use native.Mathlib.Omega.{arith}
@@ -9,7 +9,7 @@ use lib.Dec.{eqb, leb, ltb}
 use lib.ListN.{length, getD, replicate, length-set, getD-replicate}
 use lib.Seq.{getD-set-same, getD-set-other}
 use mir.Val.{boolByte}
-use Rattle.text.specs.Logic.{by-test, cond-cases, and-left, or-false, or-assoc}
+use Rattle.text.specs.Logic.{by-test, cond-cases, and-left}
 use Rattle.sheet.specs.declared.Span.{Span}
 use Rattle.coordinates.specs.declared.Place.{Place}
 use Rattle.schema.specs.Classes as class
@@ -17,7 +17,6 @@ use Rattle.document.specs.Elements.{Element, opened, text, closed, isStart, fol
 use Rattle.parts.specs.declared.Facts.{Facts}
 use Rattle.parts.specs.declared.Shapes.{Shapes}
 use Rattle.parts.specs.Elements.{within, alertOf, partOf, spanOf, later, nowhere, textSpan}
-use Rattle.parts.specs.Places.{isShape, shapeHolds, anyText, anyShape, anyHolds}
 use Rattle.parts.specs.Gathering.{kept, stored, alertSpan, partSpan, noted, noFacts, looked, seen, noShapes}
 
 -- ---- any facts
@@ -26,12 +25,17 @@ pub cond-same : {A : Type 0} (b : Bool) (x : A) → cond b x x ≡ x
 cond-same true x = refl
 cond-same false x = refl
 
+-- a choice by two tests is one after the other
+pub cond-both : {A : Type 0} (s t : Bool) (x y : A) → cond (s && t) x y ≡ cond s (cond t x y) y
+cond-both true t x y = refl
+cond-both false t x y = refl
+
 -- facts to which only the elements of part n add something are those of these elements; get reads them off all that is gathered
 module _ {F G : Type 0} (get : F → G) (note : ℕ → F → Element → F) (look : G → Element → G) (n : ℕ)
     (on : (k : ℕ) (f : F) (x : Element) → get (note k f x) ≡ cond (eqb k n) (look (get f) x) (get f))
-    (of-start : (g : G) (c p : ℕ) → look g (opened c p) ≡ g) where
+    (of-start : (g : G) (p : ℕ) → look g (opened class.info p) ≡ g) where
   start-none : (g : G) (x : Element) → isStart class.info x ≡ true → look g x ≡ g
-  start-none g (opened c p) e = of-start g c p
+  start-none g (opened c p) e = rw (eqb-true c class.info e) (of-start g p)
   start-none g (text c p t) e = absurd (false≢true e)
   start-none g (closed c) e = absurd (false≢true e)
 
@@ -108,7 +112,7 @@ module _ (n : ℕ) (es : List Element) (c : ℕ) where
   -- of the alert itself
   pub alert-kept : class.identifier ≤ c → c - class.identifier < kept → alertSpan (gather (noted n) 0 noFacts es) c ≡ textSpan (alertOf es) c
   alert-kept h g =
-      rw (gather-kept (λ (f : Facts). f .alert) (noted n) (put class.identifier) 0 on (λ ss d p. refl) 0 noFacts es)
+      rw (gather-kept (λ (f : Facts). f .alert) (noted n) (put class.identifier) 0 on (λ ss p. refl) 0 noFacts es)
       (empty-at class.identifier c h g (alertOf es))
     where
       on : (k : ℕ) (f : Facts) (x : Element) → noted n k f x .alert ≡ cond (eqb k 0) (put class.identifier (f .alert) x) (f .alert)
@@ -119,7 +123,7 @@ module _ (n : ℕ) (es : List Element) (c : ℕ) where
   -- of the part asked for
   pub part-kept : class.urgency ≤ c → c - class.urgency < kept → partSpan (gather (noted n) 0 noFacts es) c ≡ textSpan (partOf n es) c
   part-kept h g =
-      rw (gather-kept (λ (f : Facts). f .part) (noted n) (put class.urgency) n on (λ ss d p. refl) 0 noFacts es)
+      rw (gather-kept (λ (f : Facts). f .part) (noted n) (put class.urgency) n on (λ ss p. refl) 0 noFacts es)
       (empty-at class.urgency c h g (partOf n es))
     where
       on : (k : ℕ) (f : Facts) (x : Element) → noted n k f x .part ≡ cond (eqb k n) (put class.urgency (f .part) x) (f .part)
@@ -129,28 +133,5 @@ module _ (n : ℕ) (es : List Element) (c : ℕ) where
 
 -- ---- shapes
 
--- something that texts may be: whether one is
-any-looked :
-    (p : Place) (is : ℕ → List ℕ → Bool) (get : Shapes → Bool)
-    → ((f : Shapes) (c q : ℕ) (t : List ℕ) → get (looked p f (text c q t)) ≡ get f || is c t)
-    → (f : Shapes) (es : List Element) → get (fold (looked p) f es) ≡ get f || anyText is es
-unfolding fold anyText
-any-looked p is get of-text f [] = sym (or-false (get f))
-any-looked p is get of-text f (opened c q ∷ es) = any-looked p is get of-text f es
-any-looked p is get of-text f (text c q t ∷ es) =
-    any-looked p is get of-text (looked p f (text c q t)) es ∙ (rw (of-text f c q t) (or-assoc (get f) (is c t) (anyText is es)))
-any-looked p is get of-text f (closed c ∷ es) = any-looked p is get of-text f es
-
-module _ (p : Place) (n : ℕ) (es : List Element) where
-  seen-part : gather (seen n p) 0 noShapes es ≡ fold (looked p) noShapes (partOf n es)
-  seen-part = gather-kept (λ (f : Shapes). f) (seen n p) (looked p) n (λ k f x. refl) (λ f c q. refl) 0 noShapes es
-
-  pub any-kept : gather (seen n p) 0 noShapes es .any ≡ anyShape (partOf n es)
-  any-kept =
-      ap (λ (f : Shapes). f .any) seen-part
-      ∙ any-looked p (λ (c : ℕ) (t : List ℕ). isShape c) (λ (f : Shapes). f .any) (λ f c q t. refl) noShapes (partOf n es)
-
-  pub inside-kept : gather (seen n p) 0 noShapes es .inside ≡ anyHolds p (partOf n es)
-  inside-kept =
-      ap (λ (f : Shapes). f .inside) seen-part
-      ∙ any-looked p (shapeHolds p) (λ (f : Shapes). f .inside) (λ f c q t. refl) noShapes (partOf n es)
+pub seen-part : (p : Place) (n : ℕ) (es : List Element) → gather (seen n p) 0 noShapes es ≡ fold (looked p) noShapes (partOf n es)
+seen-part p n es = gather-kept (λ (f : Shapes). f) (seen n p) (looked p) n (λ k f x. refl) (λ f q. refl) 0 noShapes es

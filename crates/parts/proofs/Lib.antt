@@ -1,5 +1,9 @@
 pub mod Lookups
+pub mod Standing
+pub mod AreaOrder
 pub mod Keeping
+pub mod KeptShapes
 pub mod Sights
 pub mod Meant
+pub mod TrueReasons
 pub mod Durations

@@ -1,23 +1,27 @@
--- The sheet drawn from what was kept is that of the definitions, and so is the answer for a place.
+-- The sheet drawn from what was kept is that of the definitions, and so is the reason for a place; and the answer for a place is what the reason says.
 use mathlib.Core.Path.{_≡_, refl, ap, _∙_}
+use mathlib.Core.Bool.{cond}
 use mathlib.Core.List.{List}
 use Prim.Native.Nat.{ℕ, _+_, _-_, _≤_, _<_}
 use native.Mathlib.Omega.{arith}
-use lib.Dec.{eqb}
+use borrow.Author.Tests.{eqb-true, eqb-false, lt-ltb}
+use lib.Dec.{eqb, ltb}
 use Rattle.text.specs.Logic.{by-test}
 use Rattle.text.specs.Answers.{Answer, gives, refuses, andThen, giving}
 use Rattle.coordinates.specs.declared.Place.{Place}
+use Rattle.coordinates.specs.Place.{inRange}
 use Rattle.sheet.specs.declared.Lasting.{Lasting}
 use Rattle.sheet.specs.declared.Parts.{Parts}
 use Rattle.sheet.specs.declared.Parts.the-variants as parts
 use Rattle.sheet.specs.declared.Span.{Span}
 use Rattle.sheet.specs.declared.Found.{Found}
 use Rattle.schema.specs.Classes as class
-use Rattle.document.specs.Elements.{Element, total, gather, answer}
+use Rattle.document.specs.Elements.{Element, total, fold, gather, answer}
 use Rattle.document.specs.Tags.{maxInfos}
 use Rattle.document.specs.Documents.{documentOf}
 use Rattle.document.proofs.Schema.{parts-limit}
 use Rattle.parts.specs.declared.Facts.{Facts}
+use Rattle.parts.specs.declared.Shapes.{Shapes}
 use Rattle.parts.specs.declared.Outcome.{Outcome}
 use Rattle.parts.specs.declared.Outcome.the-variants as outcome
 use Rattle.parts.specs.declared.Reading.{Reading}
@@ -25,10 +29,14 @@ use Rattle.parts.specs.declared.View.{View}
 use Rattle.parts.specs.declared.View.the-variants as view
 use Rattle.parts.specs.Elements.{alertOf, partOf, lookUp, textSpan}
 use Rattle.parts.specs.Sheets.{lastsOf, partFacts, sheetWith, partsOf, sheetOfPart, capSheet}
-use Rattle.parts.specs.Places.{Side, anyShape, anyHolds, placedInPart, capPlace}
-use Rattle.parts.specs.Gathering.{kept, alertSpan, partSpan, noted, noFacts, acceptedWith, refusedWith, readingOf, seen, noShapes, viewOf}
+use Rattle.parts.specs.Areas.{areasOf}
+use Rattle.parts.specs.Places.{sideOf, anyShape, anyHolds, askedAbout, capPlace}
+use Rattle.parts.specs.Reasons.{Reason, sideBy, reasonOf, reasonIn, capWhy}
+use Rattle.parts.specs.Gathering.{kept, alertSpan, partSpan, noted, noFacts, acceptedWith, refusedWith, readingOf, isNamed, looked, seen, noShapes, viewOf, namedShape}
 use Rattle.parts.proofs.Lookups.{there-part}
-use Rattle.parts.proofs.Keeping.{alert-kept, part-kept, any-kept, inside-kept}
+use Rattle.parts.proofs.AreaOrder.{outside, Placed, part-placed}
+use Rattle.parts.proofs.Keeping.{alert-kept, part-kept, seen-part}
+use Rattle.parts.proofs.KeptShapes.{kept-first, kept-count, any-counted, any-named}
 
 -- ---- sheets
 
@@ -112,18 +120,55 @@ reading-sheet n l r o e q = rw (← q, e) (go (documentOf l) refl)
 
 -- ---- places
 
--- what a view of part n means for the answer x for a place
-abbrev pub PlaceBy : Place → ℕ → Answer Side → View → Type 0
-PlaceBy p n x (view.Accepted t f) = placedInPart p n t (f .inside) (f .any) ≡ x
-PlaceBy p n x (view.Refused k q) = refuses k q ≡ x
+-- what a view of part n means for the reason x
+abbrev pub WhyBy : Place → ℕ → Answer Reason → View → Type 0
+WhyBy p n x (view.Accepted t f) = askedAbout p n t (reasonOf (namedShape f) (f .count)) ≡ x
+WhyBy p n x (view.Refused k q) = refuses k q ≡ x
 
-pub view-place : (n : ℕ) (p : Place) (l : List ℕ) (v r : View) → v ≡ viewOf n p l → v ≡ r → PlaceBy p n (capPlace n p l) r
-unfolding viewOf capPlace
-view-place n p l v r e q = rw (← q, e) (go (documentOf l))
+pub view-why : (n : ℕ) (p : Place) (l : List ℕ) (v r : View) → v ≡ viewOf n p l → v ≡ r → WhyBy p n (capWhy n p l) r
+unfolding viewOf capWhy
+view-why n p l v r e q = rw (← q, e) (go (documentOf l) refl)
   where
-    placedFrom : Answer (List Element) → Answer Side
-    placedFrom v = andThen v (λ es. placedInPart p n (total es) (anyHolds p (partOf n es)) (anyShape (partOf n es)))
+    whyFrom : Answer (List Element) → Answer Reason
+    whyFrom v = andThen v (λ es. askedAbout p n (total es) (reasonIn p (areasOf (partOf n es))))
 
-    go : (d : Answer (List Element)) → PlaceBy p n (placedFrom d) (answer view.Accepted view.Refused (seen n p) 0 noShapes d)
-    go (gives es) = let z : 0 + total es ≡ total es = omega arith in rw (z, any-kept p n es, inside-kept p n es)
-    go (refuses k q) = refl
+    go : (d : Answer (List Element)) → documentOf l ≡ d → WhyBy p n (whyFrom d) (answer view.Accepted view.Refused (seen n p) 0 noShapes d)
+    go (gives es) d =
+        let z : 0 + total es ≡ total es = omega arith in
+        let placed = part-placed l es d n in
+        rw (z, seen-part p n es, kept-first p (partOf n es) placed, kept-count p (partOf n es) placed)
+    go (refuses k q) d = refl
+
+-- ---- the answer for a place is what the reason says
+
+side-by : (f : Shapes) → sideBy (reasonOf (namedShape f) (f .count)) ≡ sideOf (isNamed f) (ltb 0 (f .count))
+side-by f =
+    by-test (eqb (f .class) 0)
+    (λ h.
+    rw h
+    (by-test (eqb (f .count) 0) (λ e. rw (eqb-true (f .count) 0 e)) (λ e. rw (e, lt-ltb 0 (f .count) (omega (arith, eqb-false (f .count) 0 e))))))
+    (λ h. rw h)
+
+module _ {A B : Type 0} (g : A → B) (p : Place) (n t : ℕ) (x : A) where
+  asked-giving : giving g (askedAbout p n t x) ≡ askedAbout p n t (g x)
+  asked-giving = go (lookUp n t)
+    where
+      go :
+          (r : Answer ℕ)
+          → giving g (andThen r (λ k. cond (inRange p) (gives x) (refuses 6 0))) ≡ andThen r (λ k. cond (inRange p) (gives (g x)) (refuses 6 0))
+      go (gives k) = by-test (inRange p) (λ e. rw e) (λ e. rw e)
+      go (refuses k q) = refl
+
+pub why-place : (n : ℕ) (p : Place) (l : List ℕ) → giving sideBy (capWhy n p l) ≡ capPlace n p l
+unfolding capWhy capPlace
+why-place n p l = go (documentOf l) refl
+  where
+    side : (es : List Element) → Placed outside es → sideBy (reasonIn p (areasOf es)) ≡ sideOf (anyHolds p es) (anyShape es)
+    side es k = rw (← kept-first p es k, ← kept-count p es k, ← any-named p es, ← any-counted p es) (side-by (fold (looked p) noShapes es))
+
+    go :
+        (d : Answer (List Element)) → documentOf l ≡ d
+        → giving sideBy (andThen d (λ es. askedAbout p n (total es) (reasonIn p (areasOf (partOf n es)))))
+        ≡ andThen d (λ es. askedAbout p n (total es) (sideOf (anyHolds p (partOf n es)) (anyShape (partOf n es))))
+    go (gives es) d = asked-giving sideBy p n (total es) _ ∙ ap (askedAbout p n (total es)) (side (partOf n es) (part-placed l es d n))
+    go (refuses k q) d = refl

@@ -1,4 +1,4 @@
--- Whether a place is inside a part: "Asking about a place, likewise: 21, 6".
+-- Whether a place is inside a part.
 use mathlib.Core.Bool.{Bool, false, cond, _||_}
 use mathlib.Core.List.{List, [], _∷_}
 use Prim.Native.Nat.{ℕ}
@@ -50,12 +50,13 @@ pub data Side : Type 0 where
 abbrev pub sideOf : (holds any : Bool) → Side
 sideOf holds any = cond holds inside (cond any outside noShape)
 
-abbrev pub placedInPart : Place → (number total : ℕ) → (holds any : Bool) → Answer Side
-placedInPart p n total holds any = andThen (lookUp n total) (λ k. cond (inRange p) (gives (sideOf holds any)) (refuses 6 0))
+-- "Asking about a place, likewise: 21, 6": the answer, where the n-th part is one of so many and the place is in range
+abbrev pub askedAbout : {A : Type 0} → Place → (number total : ℕ) → A → Answer A
+askedAbout p n total x = andThen (lookUp n total) (λ k. cond (inRange p) (gives x) (refuses 6 0))
 
 -- whether the n-th part of the document l holds a place
 unfoldable pub capPlace : ℕ → Place → List ℕ → Answer Side
-capPlace n p l = andThen (documentOf l) (λ es. placedInPart p n (total es) (anyHolds p (partOf n es)) (anyShape (partOf n es)))
+capPlace n p l = andThen (documentOf l) (λ es. askedAbout p n (total es) (sideOf (anyHolds p (partOf n es)) (anyShape (partOf n es))))
 
 abbrev pub placeAnswer : CapPlace → Answer Side
 placeAnswer placed.Inside = gives inside

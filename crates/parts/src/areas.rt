@@ -1,7 +1,10 @@
 // Polygons and circles of a part.
-use crate::CapPlace;
+use crate::CapWhy;
 use crate::Lookup;
+use crate::ShapeAt;
+use crate::ShapeKind;
 use crate::Shapes;
+use crate::Shown;
 use crate::Sight;
 use crate::View;
 use coordinates::Inclusion;
@@ -13,11 +16,12 @@ ghost use mathlib.Core.Path.{_≡_};
 ghost use mathlib.Core.Bool.{true, cond};
 ghost use Rattle.text.specs.Answers.{gives};
 ghost use Rattle.coordinates.specs.Answers.{inclusionAnswer};
-ghost use Rattle.document.specs.Elements.{fold};
 ghost use Rattle.document.specs.Documents.{elementsOf};
 ghost use Rattle.rules.specs.Texts.{textRule};
-ghost use Rattle.parts.specs.Places.{isShape, sideOf, placedInPart, placeAnswer};
-ghost use Rattle.parts.specs.Gathering.{shapeAnswer, shapeSeen, seenText, seen, sightBy, sightOf, viewOf};
+ghost use Rattle.parts.specs.declared.Shown.the-variants.{Nothing, Shape};
+ghost use Rattle.parts.specs.Places.{isShape, shapeHolds, askedAbout};
+ghost use Rattle.parts.specs.Reasons.{reasonOf, whyAnswer};
+ghost use Rattle.parts.specs.Gathering.{shapeAnswer, shownText, shownIn, shownTag, sightBy, sightOf, begun, counted, lastPosition, named, added, viewOf, kindOf, namedShape, most, AtMost};
 
 // Whether the shape that a text of a class writes holds a place. A class that is no polygon's is taken for a circle's.
 fn shape_answer(place: Place, class: usize, t: &[u8]) -> Inclusion
@@ -29,12 +33,12 @@ fn shape_answer(place: Place, class: usize, t: &[u8]) -> Inclusion
     circle::circle_holds(t, place)
 }
 
-// What is seen after a text that starts at an offset, by the number that its rule gives.
-fn sight_by(number: u8, from: usize, f: Shapes) -> Sight
-    ensures { λ r. ⌜ r ≡ sightBy number from f ⌝ }
+// What a text that starts at an offset shows, by the number that its rule gives.
+fn sight_by(number: u8, from: usize, shown: Shown) -> Sight
+    ensures { λ r. ⌜ r ≡ sightBy number from shown ⌝ }
 {
     if number == 0 {
-        return Sight::Seen(f);
+        return Sight::Seen(shown);
     }
     Sight::Refused(number, from)
 }
@@ -42,56 +46,124 @@ fn sight_by(number: u8, from: usize, f: Shapes) -> Sight
 // A shape of the part, before which none holds the place: one reading of its text tests its rule and asks about the place.
 fn see_shape(place: Place, class: usize, from: usize, t: &[u8]) -> Sight
     requires { ⌜ isShape class ≡ true ⌝ }
-    ensures { λ r. ⌜ r ≡ sightBy (textRule class (now (t .entry))) from (shapeSeen place class (now (t .entry))) ⌝ }
+    ensures { λ r. ⌜ r ≡ sightBy (textRule class (now (t .entry))) from (Shape class (shapeHolds place class (now (t .entry)))) ⌝ }
 {
     let inclusion = shape_answer(place, class, t);
     match inclusion {
-        Inclusion::Inside => Sight::Seen(Shapes {
-            any: true,
-            inside: true,
-        }),
-        Inclusion::Outside => Sight::Seen(Shapes {
-            any: true,
-            inside: false,
-        }),
+        Inclusion::Inside => Sight::Seen(Shown::Shape(class, true)),
+        Inclusion::Outside => Sight::Seen(Shown::Shape(class, false)),
         Inclusion::Fault => Sight::Refused(22, from),
     }
 }
 
-// A text that starts at an offset, of the part or not. A shape after one that holds the place isn't asked about the place.
-fn see_text(asked: bool, place: Place, f: Shapes, class: usize, from: usize, t: &[u8]) -> Sight
-    ensures { λ r. ⌜ r ≡ sightBy (textRule class (now (t .entry))) from (cond asked (seenText place f class (now (t .entry))) f) ⌝ }
+// A text that starts at an offset, of the part or not. A shape after one that holds the place, which is named, isn't asked about the place.
+fn see_text(asked: bool, named: bool, place: Place, class: usize, from: usize, t: &[u8]) -> Sight
+    ensures { λ r. ⌜ r ≡ sightBy (textRule class (now (t .entry))) from (cond asked (shownText place named class (now (t .entry))) Nothing) ⌝ }
 {
-    let shape = asked & ((class == class::POLYGON) | (class == class::CIRCLE));
-    if shape & !f.inside {
-        return see_shape(place, class, from, t);
+    if !(asked & ((class == class::POLYGON) | (class == class::CIRCLE))) {
+        return sight_by(rules::text_rule(class, t), from, Shown::Nothing);
     }
-    sight_by(
-        rules::text_rule(class, t),
-        from,
-        Shapes {
-            any: f.any | shape,
-            inside: f.inside,
-        },
-    )
+    if named {
+        return sight_by(rules::text_rule(class, t), from, Shown::Shape(class, false));
+    }
+    see_shape(place, class, from, t)
 }
 
-// What an event shows of a part, where some infos have started, or the refusal of its text.
-fn see(s: &[u8], part: usize, place: Place, infos: usize, f: Shapes, event: Event) -> Sight
-    ensures { λ r. ⌜ r ≡ sightOf (now (s .entry)) event (fold (seen part place infos) f (elementsOf (now (s .entry)) event)) ⌝ }
+// An event that is no text, of the part or not.
+fn see_tag(asked: bool, event: Event) -> Shown
+    ensures { λ r. ⌜ r ≡ shownTag asked event ⌝ }
 {
-    match event {
-        Event::Silent => Sight::Seen(f),
-        Event::Opened(class, at) => Sight::Seen(f),
-        Event::Text(class, from, until) => see_text(
-            infos == part,
-            place,
-            f,
-            class,
-            from,
-            text::part(s, from, until),
-        ),
-        Event::Closed(class) => Sight::Seen(f),
+    let Event::Opened(class, at) = event else {
+        return Shown::Nothing;
+    };
+    if asked & (class == class::AREA) {
+        return Shown::Area;
+    }
+    Shown::Nothing
+}
+
+// What an event shows, of the part or not, where a shape before it is named or not; or the refusal of its text.
+fn see(s: &[u8], asked: bool, named: bool, place: Place, event: Event) -> Sight
+    ensures { λ r. ⌜ r ≡ sightOf (now (s .entry)) event (shownIn asked place named (elementsOf (now (s .entry)) event)) ⌝ }
+{
+    let Event::Text(class, from, until) = event else {
+        return Sight::Seen(see_tag(asked, event));
+    };
+    see_text(asked, named, place, class, from, text::part(s, from, until))
+}
+
+// An area starts.
+fn start_area(f: Shapes) -> Shapes
+    requires { ⌜ AtMost most f ⌝ }
+    ensures { λ r. ⌜ r ≡ begun f ⌝ }
+{
+    Shapes {
+        areas: f.areas + 1,
+        polygons: 0,
+        circles: 0,
+        count: f.count,
+        class: f.class,
+        area: f.area,
+        position: f.position,
+    }
+}
+
+// A shape of a class, counted.
+fn count_shape(class: usize, f: Shapes) -> Shapes
+    requires { ⌜ AtMost most f ⌝ }
+    ensures { λ r. ⌜ r ≡ counted class f ⌝ }
+{
+    Shapes {
+        areas: f.areas,
+        polygons: f.polygons + (class == class::POLYGON) as usize,
+        circles: f.circles + (class == class::CIRCLE) as usize,
+        count: f.count + 1,
+        class: f.class,
+        area: f.area,
+        position: f.position,
+    }
+}
+
+// The position, in its area, of the shape of a class that was counted last.
+fn last_position(class: usize, f: Shapes) -> usize
+    ensures { λ r. ⌜ r ≡ lastPosition class f ⌝ }
+{
+    if class == class::POLYGON {
+        return f.polygons;
+    }
+    f.circles
+}
+
+// The shape of a class that was counted last is named.
+fn name_shape(class: usize, f: Shapes) -> Shapes
+    ensures { λ r. ⌜ r ≡ named class f ⌝ }
+{
+    Shapes {
+        areas: f.areas,
+        polygons: f.polygons,
+        circles: f.circles,
+        count: f.count,
+        class,
+        area: f.areas,
+        position: last_position(class, f),
+    }
+}
+
+// The shapes with what a construct shows.
+fn add(shown: Shown, f: Shapes) -> Shapes
+    requires { ⌜ AtMost most f ⌝ }
+    ensures { λ r. ⌜ r ≡ added shown f ⌝ }
+{
+    match shown {
+        Shown::Nothing => f,
+        Shown::Area => start_area(f),
+        Shown::Shape(class, holds) => {
+            let counted = count_shape(class, f);
+            if holds {
+                return name_shape(class, counted);
+            }
+            counted
+        }
     }
 }
 
@@ -103,17 +175,22 @@ pub fn read_shapes(s: &[u8], part: usize, place: Place) -> View
     let mut step = document::first_step(s);
     let mut infos = 0;
     let mut f = Shapes {
-        any: false,
-        inside: false,
+        areas: 0,
+        polygons: 0,
+        circles: 0,
+        count: 0,
+        class: 0,
+        area: 0,
+        position: 0,
     };
     loop {
         match step {
             Step::Next(m, event) => {
                 infos = m.infos;
-                let sight = see(s, part, place, infos, f, event);
+                let sight = see(s, infos == part, f.class != 0, place, event);
                 match sight {
-                    Sight::Seen(shapes) => {
-                        f = shapes;
+                    Sight::Seen(shown) => {
+                        f = add(shown, f);
                         step = document::constructs::read_step(s, m);
                     }
                     Sight::Refused(number, at) => {
@@ -131,29 +208,42 @@ pub fn read_shapes(s: &[u8], part: usize, place: Place) -> View
     }
 }
 
-// Inside, outside or no shape, by what was seen.
-fn side_of(f: Shapes) -> CapPlace
-    ensures { λ r. ⌜ placeAnswer r ≡ gives (sideOf (f .inside) (f .any)) ⌝ }
+fn kind_of(class: usize) -> ShapeKind
+    ensures { λ r. ⌜ r ≡ kindOf class ⌝ }
 {
-    if f.inside {
-        return CapPlace::Inside;
+    if class == class::POLYGON {
+        return ShapeKind::Polygon;
     }
-    if f.any {
-        return CapPlace::Outside;
-    }
-    CapPlace::NoShape
+    ShapeKind::Circle
 }
 
-// The answer for a place, by the number of parts and what was seen of the part asked for.
-pub fn placed_in_part(part: usize, total: usize, f: Shapes, place: Place) -> CapPlace
-    ensures { λ r. ⌜ placeAnswer r ≡ placedInPart place part total (f .inside) (f .any) ⌝ }
+// The reason by what was seen.
+fn why_by(f: Shapes) -> CapWhy
+    ensures { λ r. ⌜ whyAnswer r ≡ gives (reasonOf (namedShape f) (f .count)) ⌝ }
+{
+    if f.class != 0 {
+        return CapWhy::Inside(ShapeAt {
+            area: f.area,
+            kind: kind_of(f.class),
+            position: f.position,
+        });
+    }
+    if f.count == 0 {
+        return CapWhy::NoShape;
+    }
+    CapWhy::Outside(f.count)
+}
+
+// The reason for a place, by the number of parts and what was seen of the part asked for.
+pub fn why_in_part(part: usize, total: usize, f: Shapes, place: Place) -> CapWhy
+    ensures { λ r. ⌜ whyAnswer r ≡ askedAbout place part total (reasonOf (namedShape f) (f .count)) ⌝ }
 {
     let found = crate::look_up(part, total);
     let Lookup::There(number) = found else {
-        return CapPlace::NotThere;
+        return CapWhy::NotThere;
     };
     if !coordinates::in_range(place) {
-        return CapPlace::OutOfRange;
+        return CapWhy::OutOfRange;
     }
-    side_of(f)
+    why_by(f)
 }

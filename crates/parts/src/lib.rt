@@ -1,12 +1,14 @@
-// Parts of CAP documents: their sheets, and whether a place is inside one.
+// Parts of CAP documents: their sheets, and whether a place is inside one, and why.
 use coordinates::Place;
 use sheet::CapFacts;
 use sheet::Lasting;
 use sheet::Span;
 ghost use mathlib.Core.Path.{_≡_};
+ghost use Rattle.text.specs.Answers.{giving};
 ghost use Rattle.parts.specs.Elements.{lookUp, lookupAnswer};
 ghost use Rattle.parts.specs.Sheets.{capSheet, sheetAnswer};
 ghost use Rattle.parts.specs.Places.{capPlace, placeAnswer};
+ghost use Rattle.parts.specs.Reasons.{sideBy, capWhy, whyAnswer};
 
 mod areas; // areas.rt: polygons and circles
 mod lasting; // lasting.rt: how long a part lasts
@@ -23,15 +25,42 @@ pub struct Facts {
     pub part: [Span; KEPT],
 }
 
-// Whether the part asked for has a shape, and one that holds the place asked about.
-pub struct Shapes {
-    pub any: bool,
-    pub inside: bool,
+// What a shape is.
+pub enum ShapeKind {
+    Polygon,
+    Circle,
 }
 
-// What was seen of the shapes up to a construct, or the refusal of its text (number, offset).
+// Which shape of a part: the position of its area among the part's areas, and its own among the shapes of its kind in that area, both from 1.
+pub struct ShapeAt {
+    pub area: usize,
+    pub kind: ShapeKind,
+    pub position: usize,
+}
+
+// The shapes of the part asked for: how many areas have started, how many polygons and circles the last of them has, and how many shapes there are in
+// all; and of the first shape that holds the place its class, 0 for none, its area and its position. All are numbers, as a loop copies them.
+pub struct Shapes {
+    pub areas: usize,
+    pub polygons: usize,
+    pub circles: usize,
+    pub count: usize,
+    pub class: usize,
+    pub area: usize,
+    pub position: usize,
+}
+
+// What a construct shows of the part asked for: nothing that counts, the start of an area, or a shape of a class and whether it is the first that holds
+// the place.
+pub enum Shown {
+    Nothing,
+    Area,
+    Shape(usize, bool),
+}
+
+// What a construct shows, or the refusal of its text (number, offset).
 pub enum Sight {
-    Seen(Shapes),
+    Seen(Shown),
     Refused(u8, usize),
 }
 
@@ -60,6 +89,16 @@ pub enum CapSheet {
 pub enum CapPlace {
     Inside,
     Outside,
+    NoShape,
+    NotThere,
+    OutOfRange,
+    Refused(u8, usize),
+}
+
+// Why a part holds a place, by the first shape that does, or doesn't, by the number of its shapes; or why there is no answer, as above.
+pub enum CapWhy {
+    Inside(ShapeAt),
+    Outside(usize),
     NoShape,
     NotThere,
     OutOfRange,
@@ -112,13 +151,35 @@ pub fn cap_sheet(s: &[u8], part: usize) -> CapSheet
     }
 }
 
-// Whether a place is inside a part of a document.
+// Why a place is inside a part of a document or outside it.
+pub fn cap_why(s: &[u8], part: usize, place: Place) -> CapWhy
+    ensures { λ r. ⌜ whyAnswer r ≡ capWhy part place (now (s .entry)) ⌝ }
+{
+    // a slice that is made here stays in registers; one that is handed in is fetched from memory for each construct
+    let view = areas::read_shapes(text::skip(s, 0), part, place);
+    match view {
+        View::Accepted(total, f) => areas::why_in_part(part, total, f, place),
+        View::Refused(number, offset) => CapWhy::Refused(number, offset),
+    }
+}
+
+// What a part says of a place, by the reason.
+pub fn side_of(why: CapWhy) -> CapPlace
+    ensures { λ r. ⌜ placeAnswer r ≡ giving sideBy (whyAnswer why) ⌝ }
+{
+    match why {
+        CapWhy::Inside(shape) => CapPlace::Inside,
+        CapWhy::Outside(shapes) => CapPlace::Outside,
+        CapWhy::NoShape => CapPlace::NoShape,
+        CapWhy::NotThere => CapPlace::NotThere,
+        CapWhy::OutOfRange => CapPlace::OutOfRange,
+        CapWhy::Refused(number, offset) => CapPlace::Refused(number, offset),
+    }
+}
+
+// Whether a place is inside a part of a document: what the reason says.
 pub fn cap_place(s: &[u8], part: usize, place: Place) -> CapPlace
     ensures { λ r. ⌜ placeAnswer r ≡ capPlace part place (now (s .entry)) ⌝ }
 {
-    let view = areas::read_shapes(s, part, place);
-    match view {
-        View::Accepted(total, f) => areas::placed_in_part(part, total, f, place),
-        View::Refused(number, offset) => CapPlace::Refused(number, offset),
-    }
+    side_of(cap_why(s, part, place))
 }

@@ -1,4 +1,4 @@
--- Worked samples: whole documents, their sheets with the sentences that say them, and places inside and outside their parts.
+-- Worked samples: whole documents, their sheets with the sentences that say them, and places inside and outside their parts, with the reasons.
 use mathlib.Core.Path.{_≡_, refl}
 use mathlib.Core.List.{List, [], _++_}
 use Prim.Native.Nat.{ℕ, _*_}
@@ -44,9 +44,13 @@ use Rattle.document.specs.Elements.{starts, fold}
 use Rattle.document.specs.Tags.{openStep, emptyStep, boundStep, localName, isAlert, startStep, closeStep, endedStep, tagStep}
 use Rattle.document.specs.Constructs.{constructStep, stepOf}
 use Rattle.document.specs.Documents.{firstStep, run, documentOf}
+use Rattle.parts.specs.declared.ShapeKind.{ShapeKind}
+use Rattle.parts.specs.declared.ShapeKind.the-variants as kind
 use Rattle.parts.specs.Elements.{within, lookUp}
 use Rattle.parts.specs.Sheets.{lastsOf, capSheet}
+use Rattle.parts.specs.Areas.{upToEnd, textsOf, areasOf, shapesOf}
 use Rattle.parts.specs.Places.{inside, outside, noShape, anyText, capPlace}
+use Rattle.parts.specs.Reasons.{firstOfKind, firstFrom, Reason, held, tried, shapeless, capWhy}
 
 -- ---- documents
 
@@ -96,6 +100,15 @@ double =
     (ascii "<area><areaDesc/><polygon>0,0 0,10 10,10 10,0 0,0</polygon><circle>20,20 1</circle></area>")
     ++ info [] [] ++ end
 
+-- three areas: one without shapes, one whose first circle lies in both its polygons, and one with a corner at the other circle's centre
+abbrev pub areas : List ℕ
+areas =
+    head (ascii "A20") (ascii "2026-03-01T10:00:00-00:00") (ascii "Alert")
+    ++ info []
+    (ascii "<area><areaDesc/></area><area><areaDesc/><polygon>0,0 0,10 10,10 10,0 0,0</polygon><polygon>0,0 0,20 20,20 20,0 0,0</polygon>"
+    ++ ascii "<circle>5,5 1</circle><circle>30,30 1</circle></area><area><areaDesc/><polygon>30,30 30,40 40,40 40,30 30,30</polygon></area>")
+    ++ end
+
 -- the sheet of such a part, with the offsets of sender and name
 abbrev pub kiln : (seconds : ℕ) → Found
 kiln seconds =
@@ -123,6 +136,9 @@ saidOf l n = giving (λ x. sentence (sheetIn l x)) (capSheet n l)
 
 abbrev pub degrees : ℕ → ℕ → Place
 degrees y x = record { lat = pos (y * 10_000_000); lon = pos (x * 10_000_000) }
+
+abbrev pub heldBy : (area : ℕ) → ShapeKind → (position : ℕ) → Answer Reason
+heldBy a k i = gives (held (record { area = a; kind = k; position = i }))
 
 -- ---- the samples
 
@@ -165,6 +181,23 @@ pub record Samples : Type 0 where
       × (capPlace 1 (degrees 91 5) double ≡ refuses 6 0)
       × (capPlace 3 (degrees 91 5) double ≡ refuses 21 0)
       × (capPlace 1 (degrees 91 5) (ascii "<html>") ≡ refuses 16 0)
+  -- why, for the same places (request [5])
+  pub sample-reasons :
+      (capWhy 1 (degrees 5 5) double ≡ heldBy 1 kind.Polygon 1)
+      × (capWhy 1 (degrees 20 20) double ≡ heldBy 1 kind.Circle 1)
+      × (capWhy 1 (degrees 15 15) double ≡ gives (tried 2))
+      × (capWhy 2 (degrees 5 5) double ≡ gives shapeless)
+      × (capWhy 0 (degrees 5 5) cancel ≡ gives shapeless)
+      × (capWhy 1 (degrees 91 5) double ≡ refuses 6 0)
+      × (capWhy 3 (degrees 91 5) double ≡ refuses 21 0)
+      × (capWhy 1 (degrees 91 5) (ascii "<html>") ≡ refuses 16 0)
+  -- in both polygons and a circle; on the second polygon's edge; in a circle and at the corner of a later area's polygon; in that polygon; in none
+  pub sample-areas :
+      (capWhy 1 (degrees 5 5) areas ≡ heldBy 2 kind.Polygon 1)
+      × (capWhy 1 (degrees 20 5) areas ≡ heldBy 2 kind.Polygon 2)
+      × (capWhy 1 (degrees 30 30) areas ≡ heldBy 2 kind.Circle 2)
+      × (capWhy 1 (degrees 35 35) areas ≡ heldBy 3 kind.Polygon 1)
+      × (capWhy 1 (degrees 25 25) areas ≡ gives (tried 5))
 
 pub samples : Samples
 unfolding capSheet sheetIn lastsOf lookUp within fold starts documentOf firstStep run stepOf constructStep tagStep endedStep startStep isAlert localName
@@ -173,7 +206,7 @@ unfolding capSheet sheetIn lastsOf lookUp within fold starts documentOf firstSte
     localSeconds isStamp stampOf hasForm daysOfYears daysOfMonths nextOf containerOf class.classOf class.find class.names opening.prolog
     opening.declaration texts.content texts.isFault texts.isReference comments.comment attribute.nameSpace attribute.declared attribute.prefixed
     attribute.equals attribute.value tags.tail tags.tagEnd startsWith numberFrom sentence sentenceIn capText partsText partText lastingText dictionary
-    word spaced ones belowHundred belowThousand group numberCodes said counted durationCodes lasting capPlace anyText polygonRule circleRule
+    word spaced ones belowHundred belowThousand group numberCodes said counted durationCodes lasting capPlace anyText capWhy areasOf upToEnd textsOf shapesOf firstFrom firstOfKind polygonRule circleRule
     circleHolds aroundHolds inCircle shorterWay cosines circleOf circleTokens radiusOf polygonHolds inRing onRing crossings onEdge crosses eastOf northOf
     polygonOf placesOf isClosed lastOf pairOf degreesOf coordinateAt scaled fraction places decimalLength isDecimal leads tokens onToken
     longer
@@ -185,4 +218,6 @@ samples = record {
   sample-double = (refl, refl);
   sample-refusals = (refl, refl, refl, refl, refl, refl);
   sample-places = (refl, refl, refl, refl, refl, refl, refl, refl);
+  sample-reasons = (refl, refl, refl, refl, refl, refl, refl, refl);
+  sample-areas = (refl, refl, refl, refl, refl);
 }

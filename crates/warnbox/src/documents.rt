@@ -1,4 +1,5 @@
 // CAP documents.
+use crate::reasons::why_left;
 use crate::replies::cap_place_reply;
 use crate::replies::check_reply;
 use crate::replies::drawn_reply;
@@ -11,8 +12,9 @@ ghost use Rattle.text.specs.Answers.{giving};
 ghost use Rattle.document.specs.Documents.{checkOf};
 ghost use Rattle.parts.specs.Sheets.{capSheet};
 ghost use Rattle.parts.specs.Places.{capPlace};
+ghost use Rattle.parts.specs.Reasons.{capWhy};
 ghost use Rattle.numbers.specs.Numbers.{numbersOf};
-ghost use Rattle.warnbox.specs.Replies.{reply, givenOr, sideNumber};
+ghost use Rattle.warnbox.specs.Replies.{reply, givenOr, sideNumber, whyNumbers};
 ghost use Rattle.warnbox.specs.Sentences.{sentenceOf, afterSentence};
 ghost use Rattle.warnbox.specs.Sheets.{noMore};
 
@@ -78,5 +80,26 @@ pub extern "C" fn warnbox_document_place(
 {
     let reply = cap_place_reply(parts::cap_place(document, part, Place { lat, lon }));
     *value = reply.value;
+    reply.number
+}
+
+// Why a place is inside a part of a document or outside it; number and value are those of whether it is. A refusal leaves `why` as it was.
+#[no_mangle]
+pub extern "C" fn warnbox_document_why(
+    document: &[u8],
+    part: usize,
+    lat: i32,
+    lon: i32,
+    why: &mut [usize; 4],
+    value: &mut usize,
+) -> u8
+    ensures { λ r. ⌜ (r ≡ reply (giving sideNumber (capPlace part (record { lat = lat; lon = lon }) (now (document .entry)))) .number)
+        × (now (value .exit) ≡ reply (giving sideNumber (capPlace part (record { lat = lat; lon = lon }) (now (document .entry)))) .value)
+        × (now (why .exit) ≡ givenOr (now (why .entry)) (giving whyNumbers (capWhy part (record { lat = lat; lon = lon }) (now (document .entry))))) ⌝ }
+{
+    let answer = parts::cap_why(document, part, Place { lat, lon });
+    let reply = cap_place_reply(parts::side_of(answer));
+    *value = reply.value;
+    *why = why_left(answer, *why);
     reply.number
 }

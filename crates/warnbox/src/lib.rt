@@ -4,6 +4,7 @@
 mod documents; // documents.rt: CAP documents
 mod names; // names.rt: the names of refusals, and the library's version
 mod packets; // packets.rt: WARN packets
+mod reasons; // reasons.rt: why a place is inside a part of a document or outside it, as numbers
 mod replies; // replies.rt: answers as numbers
 pub mod running; // running.rt: the running events of the event table
 mod sentences; // sentences.rt: writing a sheet, and reading a text back
