@@ -3,6 +3,7 @@ pub mod Standing
 pub mod AreaOrder
 pub mod Keeping
 pub mod KeptShapes
+pub mod CountBounds
 pub mod Sights
 pub mod Meant
 pub mod TrueReasons

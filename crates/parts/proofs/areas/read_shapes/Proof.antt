@@ -9,7 +9,7 @@ use Rattle.document.proofs.Tested.{first-tested}
 use Rattle.document.proofs.Loops.{left, left-less, Reads, reads-first, reads-next, reads-done, reads-refused}
 use Rattle.parts.specs.declared.View.the-variants as view
 use Rattle.parts.specs.Gathering.{seen, noShapes, viewOf}
-use Rattle.parts.proofs.KeptShapes.{Bounded, bounded-first, bounded-next, bounded-most}
+use Rattle.parts.proofs.CountBounds.{Bounded, bounded-first, bounded-next, bounded-most}
 use Rattle.parts.proofs.Sights.{seen-on, seen-refused, event-added}
 use Rattle.parts.proofs.areas.read_shapes.Statement.{statement}
 use Rattle.parts.proofs.areas.read_shapes.Tie as tie
