@@ -19,7 +19,7 @@ use Rattle.document.proofs.Accepted.{Every}
 use Rattle.document.proofs.Sound.{Sorted}
 use Rattle.parts.specs.Elements.{alertOf, lookUp}
 use Rattle.parts.specs.Places.{isShape, shapeHolds, anyText, anyShape, anyHolds, noShape, capPlace}
-use Rattle.parts.proofs.Standing.{classOf, Ends, in-alert}
+use Rattle.parts.proofs.AlongParts.{classOf, Ends, in-alert}
 use Rattle.parts.proofs.Sights.{no-shape}
 
 abbrev NoShape : Element → Type 0

@@ -16,7 +16,7 @@ use Rattle.document.specs.Elements.{Element, opened, text, closed, isStart, tot
 use Rattle.document.specs.Documents.{documentOf}
 use Rattle.document.proofs.Sound.{Sorted}
 use Rattle.parts.specs.Elements.{alertOf, partOf}
-use Rattle.parts.proofs.Standing.{classOf, Ends, in-alert, in-part}
+use Rattle.parts.proofs.AlongParts.{classOf, Ends, in-alert, in-part}
 
 -- how many texts of a class stand among elements
 abbrev pub isText : ℕ → Element → Bool

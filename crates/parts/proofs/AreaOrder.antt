@@ -15,39 +15,39 @@ use Rattle.document.specs.Elements.{Element, opened, text, closed, isStart, tot
 use Rattle.document.specs.Documents.{documentOf}
 use Rattle.document.proofs.Sound.{Sorted}
 use Rattle.parts.specs.Elements.{partOf}
-use Rattle.parts.proofs.Standing.{classOf, Ends, within-none, in-alert, in-part}
+use Rattle.parts.proofs.AlongParts.{classOf, Ends, within-none, in-alert, in-part}
 
--- ---- phases of a part: outside of its areas; in one, where polygons may come; in one, after them; misplaced
+-- ---- phases of a part: outside of its areas; in one, where polygons may come; in one, behind them; an element is misplaced
 
 pub data Phase : Type 0 where
-  outside : Phase
-  polygons : Phase
-  circles : Phase
+  betweenAreas : Phase
+  amongPolygons : Phase
+  behindPolygons : Phase
   misplaced : Phase
 
 abbrev pub onArea : Phase → Phase
-onArea outside = polygons
-onArea polygons = misplaced
-onArea circles = misplaced
+onArea betweenAreas = amongPolygons
+onArea amongPolygons = misplaced
+onArea behindPolygons = misplaced
 onArea misplaced = misplaced
 
 abbrev pub onPolygon : Phase → Phase
-onPolygon outside = misplaced
-onPolygon polygons = polygons
-onPolygon circles = misplaced
+onPolygon betweenAreas = misplaced
+onPolygon amongPolygons = amongPolygons
+onPolygon behindPolygons = misplaced
 onPolygon misplaced = misplaced
 
 abbrev pub onCircle : Phase → Phase
-onCircle outside = misplaced
-onCircle polygons = circles
-onCircle circles = circles
+onCircle betweenAreas = misplaced
+onCircle amongPolygons = behindPolygons
+onCircle behindPolygons = behindPolygons
 onCircle misplaced = misplaced
 
 -- what stands in an area behind its polygons, or outside of areas
 abbrev pub onOther : Phase → Phase
-onOther outside = outside
-onOther polygons = circles
-onOther circles = circles
+onOther betweenAreas = betweenAreas
+onOther amongPolygons = behindPolygons
+onOther behindPolygons = behindPolygons
 onOther misplaced = misplaced
 
 -- the phase after an element
@@ -55,12 +55,12 @@ abbrev pub phaseAfter : Phase → Element → Phase
 phaseAfter h (opened c p) = cond (eqb c class.area) (onArea h) (onOther h)
 phaseAfter h (text c p t) =
     cond (eqb c class.polygon) (onPolygon h) (cond (eqb c class.circle) (onCircle h) (cond (eqb c class.areaDesc) h (onOther h)))
-phaseAfter h (closed c) = cond (eqb c class.area) outside h
+phaseAfter h (closed c) = cond (eqb c class.area) betweenAreas h
 
 abbrev number : Phase → ℕ
-number outside = 0
-number polygons = 1
-number circles = 2
+number betweenAreas = 0
+number amongPolygons = 1
+number behindPolygons = 2
 number misplaced = 3
 
 -- no element of a list is misplaced
@@ -72,8 +72,8 @@ Placed h (x ∷ es) = (number h < 3) × Placed (phaseAfter h x) es
 
 abbrev phaseIn : ℕ → ℕ → Phase
 phaseIn c s =
-    cond (eqb c class.area) (cond (ltb s (firstState class.area + indexIn class.circle 1 (particles class.area))) polygons circles)
-    (cond (eqb c class.geocode) circles outside)
+    cond (eqb c class.area) (cond (ltb s (firstState class.area + indexIn class.circle 1 (particles class.area))) amongPolygons behindPolygons)
+    (cond (eqb c class.geocode) behindPolygons betweenAreas)
 
 -- the phase of a state: a geocode stands after the circles of its area
 abbrev phaseOf : ℕ → Phase
@@ -93,16 +93,16 @@ Keeps : Type 0
 Keeps = T (below states (λ (s : ℕ). below classes (keeps s)))
 
 phaseFrom : ℕ → Phase
-phaseFrom zero = outside
-phaseFrom (suc zero) = polygons
-phaseFrom (suc (suc zero)) = circles
+phaseFrom zero = betweenAreas
+phaseFrom (suc zero) = amongPolygons
+phaseFrom (suc (suc zero)) = behindPolygons
 phaseFrom (suc (suc (suc n))) = misplaced
 
 from-number : (h : Phase) → phaseFrom (number h) ≡ h
 unfolding phaseFrom
-from-number outside = refl
-from-number polygons = refl
-from-number circles = refl
+from-number betweenAreas = refl
+from-number amongPolygons = refl
+from-number behindPolygons = refl
 from-number misplaced = refl
 
 state-placed : (s : ℕ) → number (phaseOf s) < 3
@@ -147,7 +147,7 @@ module _ (t : Keeps) where
 
   module _ (l : List ℕ) (es : List Element) (d : documentOf l ≡ gives es) where
     -- before the first info, in an info, and in a part that isn't there
-    in-any : (n : ℕ) → Placed outside (partOf n es)
+    in-any : (n : ℕ) → Placed betweenAreas (partOf n es)
     unfolding Q containerOf Placed
     in-any n =
         by-test (eqb n 0) (λ e. rw (eqb-true n 0 e) (in-alert Q (none-left over) (λ s t. none-left s) at-element l es d)) λ e.
@@ -156,6 +156,6 @@ module _ (t : Keeps) where
         in-part Q (none-left over) (λ s t. none-left s) at-element l es d n (omega (arith, eqb-false n 0 e)) (leb-true n (total es) f))
         (λ f. rw (within-none 0 n es (omega (arith, leb-false n (total es) f))) (omega arith))
 
-pub part-placed : (l : List ℕ) (es : List Element) → documentOf l ≡ gives es → (n : ℕ) → Placed outside (partOf n es)
+pub part-placed : (l : List ℕ) (es : List Element) → documentOf l ≡ gives es → (n : ℕ) → Placed betweenAreas (partOf n es)
 unfolding Keeps nextOf containerOf
 part-placed = in-any tt

@@ -16,31 +16,31 @@ use Rattle.document.proofs.Loops.{left, first-left}
 use Rattle.parts.specs.declared.Shapes.{Shapes}
 use Rattle.parts.specs.declared.Shown.{Shown}
 use Rattle.parts.specs.declared.Shown.the-variants as shown
-use Rattle.parts.specs.Gathering.{shownBy, begun, counted, named, isNamed, added, looked, seen, noShapes, most, AtMost}
+use Rattle.parts.specs.Gathering.{shownBy, withArea, withShape, named, isNamed, added, looked, seen, noShapes, most, AtMost}
 
 module _ (n : ℕ) (f : Shapes) (h : AtMost n f) where
   more : AtMost (n + 1) f
   more = record { areas = omega (arith, h .areas); polygons = omega (arith, h .polygons); circles = omega (arith, h .circles); count = omega (arith, h .count) }
 
-  begun-more : AtMost (n + 1) (begun f)
-  begun-more = record { areas = omega (arith, h .areas); polygons = omega arith; circles = omega arith; count = omega (arith, h .count) }
+  area-more : AtMost (n + 1) (withArea f)
+  area-more = record { areas = omega (arith, h .areas); polygons = omega arith; circles = omega arith; count = omega (arith, h .count) }
 
-  counted-more : (c : ℕ) → AtMost (n + 1) (counted c f)
-  counted-more c = record {
+  shape-more : (c : ℕ) → AtMost (n + 1) (withShape c f)
+  shape-more c = record {
     areas = omega (arith, h .areas);
     polygons = omega (arith, h .polygons, byte-le (eqb c class.polygon));
     circles = omega (arith, h .circles, byte-le (eqb c class.circle));
     count = omega (arith, h .count);
   }
 
-  named-more : (c : ℕ) → AtMost (n + 1) (named c (counted c f))
-  named-more c = let k = counted-more c in record { areas = k .areas; polygons = k .polygons; circles = k .circles; count = k .count }
+  named-more : (c : ℕ) → AtMost (n + 1) (named c (withShape c f))
+  named-more c = let k = shape-more c in record { areas = k .areas; polygons = k .polygons; circles = k .circles; count = k .count }
 
   -- one at most is added
   added-more : (x : Shown) → AtMost (n + 1) (added x f)
   added-more shown.Nothing = more
-  added-more shown.Area = begun-more
-  added-more (shown.Shape c holds) = cond-cases (AtMost (n + 1)) holds _ _ (λ i. named-more c) (λ i. counted-more c)
+  added-more shown.Area = area-more
+  added-more (shown.Shape c holds) = cond-cases (AtMost (n + 1)) holds _ _ (λ i. named-more c) (λ i. shape-more c)
 
   looked-more : (p : Place) (x : Element) → AtMost (n + 1) (looked p f x)
   looked-more p x = added-more (shownBy p (isNamed f) x)

@@ -19,16 +19,16 @@ use Rattle.parts.specs.declared.ShapeKind.the-variants as kind
 use Rattle.parts.specs.Areas.{Area, upToEnd, textsOf, noArea, areaOf, areasOf, shapesOf}
 use Rattle.parts.specs.Places.{isShape, shapeHolds, anyText, anyShape, anyHolds}
 use Rattle.parts.specs.Reasons.{kindHolds, orElse, firstOfKind, firstFrom, firstShape}
-use Rattle.parts.specs.Gathering.{shownText, begun, isNamed, added, looked, noShapes, namedShape}
-use Rattle.parts.proofs.AreaOrder.{Phase, outside, polygons, circles, misplaced, onArea, onPolygon, onCircle, onOther, phaseAfter, Placed}
+use Rattle.parts.specs.Gathering.{shownText, withArea, isNamed, added, looked, noShapes, namedShape}
+use Rattle.parts.proofs.AreaOrder.{Phase, betweenAreas, amongPolygons, behindPolygons, misplaced, onArea, onPolygon, onCircle, onOther, phaseAfter, Placed}
 use Rattle.parts.proofs.Sights.{no-shape}
 
 -- ---- the rest of the area in which a list of elements starts
 
 abbrev restOf : Phase → List Element → Area
-restOf outside es = noArea
-restOf polygons es = areaOf (upToEnd class.area es)
-restOf circles es = record { polygons = []; circles = textsOf class.circle (upToEnd class.area es) }
+restOf betweenAreas es = noArea
+restOf amongPolygons es = areaOf (upToEnd class.area es)
+restOf behindPolygons es = record { polygons = []; circles = textsOf class.circle (upToEnd class.area es) }
 restOf misplaced es = noArea
 
 none-misplaced : (es : List Element) → Placed misplaced es → ⊥
@@ -37,7 +37,7 @@ none-misplaced [] h = omega (arith, h)
 none-misplaced (x ∷ es) h = omega (arith, h .0)
 
 -- behind the polygons of an area there are none
-no-polygons : (es : List Element) → Placed circles es → textsOf class.polygon (upToEnd class.area es) ≡ []
+no-polygons : (es : List Element) → Placed behindPolygons es → textsOf class.polygon (upToEnd class.area es) ≡ []
 unfolding Placed upToEnd textsOf
 no-polygons [] h = refl
 no-polygons (opened c p ∷ es) h =
@@ -51,9 +51,9 @@ no-polygons (closed c ∷ es) h = by-test (eqb c class.area) (λ e. rw e) (λ e.
 
 -- so an element that ends the polygons leaves what comes
 rest-other : (h : Phase) (es : List Element) → Placed (onOther h) es → restOf (onOther h) es ≡ restOf h es
-rest-other outside es k = refl
-rest-other polygons es k = rw (no-polygons es k)
-rest-other circles es k = refl
+rest-other betweenAreas es k = refl
+rest-other amongPolygons es k = rw (no-polygons es k)
+rest-other behindPolygons es k = refl
 rest-other misplaced es k = refl
 
 -- an element that is none of the texts looked for, nor the area's end
@@ -61,9 +61,9 @@ rest-skip :
     (h : Phase) (x : Element) (es : List Element)
     → textsOf class.polygon (upToEnd class.area (x ∷ es)) ≡ textsOf class.polygon (upToEnd class.area es)
     → textsOf class.circle (upToEnd class.area (x ∷ es)) ≡ textsOf class.circle (upToEnd class.area es) → restOf h (x ∷ es) ≡ restOf h es
-rest-skip outside x es j k = refl
-rest-skip polygons x es j k = rw (j, k)
-rest-skip circles x es j k = rw k
+rest-skip betweenAreas x es j k = refl
+rest-skip amongPolygons x es j k = rw (j, k)
+rest-skip behindPolygons x es j k = rw k
 rest-skip misplaced x es j k = refl
 
 -- ---- what the rest of a part adds: the first shape that holds the place, and how many shapes there are
@@ -90,13 +90,14 @@ module _ (p : Place) where
     f .count + (length (a .polygons) + length (a .circles) + shapesOf xs),
   )
 
-  on-area : (f : Shapes) (a : Area) (xs : List Area) → says (begun f) a xs ≡ says f noArea (a ∷ xs)
+  on-area : (f : Shapes) (a : Area) (xs : List Area) → says (withArea f) a xs ≡ says f noArea (a ∷ xs)
   unfolding firstOfKind firstFrom shapesOf
   on-area f a xs =
-      rw
+      ap (λ (o : Option ShapeAt). (orElse (namedShape f) o, f .count + (length (a .polygons) + length (a .circles) + shapesOf xs)))
+      (sym
       (or-else-assoc (firstOfKind p (f .areas + 1) kind.Polygon 1 (a .polygons)) (firstOfKind p (f .areas + 1) kind.Circle 1 (a .circles))
-      (firstFrom p (f .areas + 1 + 1) xs))
-      (alike (omega arith))
+      (firstFrom p (f .areas + 1 + 1) xs)))
+      ∙ alike (omega arith)
 
   on-polygon :
       (f : Shapes) (t : List ℕ) (ps cs : List (List ℕ)) (xs : List Area)
@@ -128,10 +129,10 @@ module _ (p : Place) where
       (λ e. rw e (start h (rw e at k)))
       (λ e. let j = rw e at k in rw (e, rest-other h es j, rest-skip h (opened c q) es refl refl))
     where
-      start : (h : Phase) → Placed (onArea h) es → says (begun f) (restOf (onArea h) es) (areasOf es) ≡ says f (restOf h (opened c q ∷ es)) (areaOf (upToEnd class.area es) ∷ areasOf es)
-      start outside j = on-area f (areaOf (upToEnd class.area es)) (areasOf es)
-      start polygons j = absurd (none-misplaced es j)
-      start circles j = absurd (none-misplaced es j)
+      start : (h : Phase) → Placed (onArea h) es → says (withArea f) (restOf (onArea h) es) (areasOf es) ≡ says f (restOf h (opened c q ∷ es)) (areaOf (upToEnd class.area es) ∷ areasOf es)
+      start betweenAreas j = on-area f (areaOf (upToEnd class.area es)) (areasOf es)
+      start amongPolygons j = absurd (none-misplaced es j)
+      start behindPolygons j = absurd (none-misplaced es j)
       start misplaced j = absurd (none-misplaced es j)
   on-element h f (text c q t) es k =
       by-test (eqb c class.polygon) (λ e. rw (eqb-true c class.polygon e) (polygon h (rw e at k))) λ e.
@@ -144,24 +145,24 @@ module _ (p : Place) where
       polygon :
           (h : Phase) → Placed (onPolygon h) es
           → says (added (shownText p (isNamed f) class.polygon t) f) (restOf (onPolygon h) es) (areasOf es) ≡ says f (restOf h (text class.polygon q t ∷ es)) (areasOf es)
-      polygon outside j = absurd (none-misplaced es j)
-      polygon polygons j = on-polygon f t _ _ (areasOf es)
-      polygon circles j = absurd (none-misplaced es j)
+      polygon betweenAreas j = absurd (none-misplaced es j)
+      polygon amongPolygons j = on-polygon f t _ _ (areasOf es)
+      polygon behindPolygons j = absurd (none-misplaced es j)
       polygon misplaced j = absurd (none-misplaced es j)
 
       circle :
           (h : Phase) → Placed (onCircle h) es
           → says (added (shownText p (isNamed f) class.circle t) f) (restOf (onCircle h) es) (areasOf es) ≡ says f (restOf h (text class.circle q t ∷ es)) (areasOf es)
-      circle outside j = absurd (none-misplaced es j)
-      circle polygons j = rw (no-polygons es j) (on-circle f t _ (areasOf es))
-      circle circles j = on-circle f t _ (areasOf es)
+      circle betweenAreas j = absurd (none-misplaced es j)
+      circle amongPolygons j = rw (no-polygons es j) (on-circle f t _ (areasOf es))
+      circle behindPolygons j = on-circle f t _ (areasOf es)
       circle misplaced j = absurd (none-misplaced es j)
   on-element h f (closed c) es k = by-test (eqb c class.area) (λ e. rw (eqb-true c class.area e) (end h)) (λ e. rw (e, rest-skip h (closed c) es (rw e) (rw e)))
     where
       end : (h : Phase) → says f noArea (areasOf es) ≡ says f (restOf h (closed class.area ∷ es)) (areasOf es)
-      end outside = refl
-      end polygons = refl
-      end circles = refl
+      end betweenAreas = refl
+      end amongPolygons = refl
+      end behindPolygons = refl
       end misplaced = refl
 
   along :
@@ -171,21 +172,21 @@ module _ (p : Place) where
   along h f [] k = rw (empty h, or-none (namedShape f)) (alike (omega arith))
     where
       empty : (h : Phase) → restOf h [] ≡ noArea
-      empty outside = refl
-      empty polygons = refl
-      empty circles = refl
+      empty betweenAreas = refl
+      empty amongPolygons = refl
+      empty behindPolygons = refl
       empty misplaced = refl
   along h f (x ∷ es) k = along (phaseAfter h x) (looked p f x) es (k .1) ∙ on-element h f x es (k .1)
 
   -- ---- a part of an accepted document
 
-  module _ (es : List Element) (placed : Placed outside es) where
+  module _ (es : List Element) (placed : Placed betweenAreas es) where
     abbrev kept : Shapes
     kept = fold (looked p) noShapes es
 
     kept-both : _≡_ {A = Option ShapeAt × ℕ} (namedShape kept, kept .count) (firstShape p (areasOf es), shapesOf (areasOf es))
     unfolding firstOfKind
-    kept-both = along outside noShapes es placed ∙ alike (omega arith)
+    kept-both = along betweenAreas noShapes es placed ∙ alike (omega arith)
 
     pub kept-first : namedShape kept ≡ firstShape p (areasOf es)
     kept-first = ap (λ (r : Option ShapeAt × ℕ). r .0) kept-both
@@ -260,5 +261,5 @@ module _ (p : Place) where
   all-counted f (closed c ∷ es) = all-counted f es
 
   pub counted-texts :
-      (es : List Element) → Placed outside es → shapesOf (areasOf es) ≡ length (textsOf class.polygon es) + length (textsOf class.circle es)
+      (es : List Element) → Placed betweenAreas es → shapesOf (areasOf es) ≡ length (textsOf class.polygon es) + length (textsOf class.circle es)
   counted-texts es placed = sym (kept-count p es placed) ∙ (all-counted noShapes es ∙ omega arith)

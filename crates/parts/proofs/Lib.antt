@@ -1,5 +1,5 @@
 pub mod Lookups
-pub mod Standing
+pub mod AlongParts
 pub mod AreaOrder
 pub mod Keeping
 pub mod KeptShapes

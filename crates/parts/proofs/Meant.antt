@@ -34,7 +34,7 @@ use Rattle.parts.specs.Places.{sideOf, anyShape, anyHolds, askedAbout, c
 use Rattle.parts.specs.Reasons.{Reason, sideBy, reasonOf, reasonIn, capWhy}
 use Rattle.parts.specs.Gathering.{kept, alertSpan, partSpan, noted, noFacts, acceptedWith, refusedWith, readingOf, isNamed, looked, seen, noShapes, viewOf, namedShape}
 use Rattle.parts.proofs.Lookups.{there-part}
-use Rattle.parts.proofs.AreaOrder.{outside, Placed, part-placed}
+use Rattle.parts.proofs.AreaOrder.{betweenAreas, Placed, part-placed}
 use Rattle.parts.proofs.Keeping.{alert-kept, part-kept, seen-part}
 use Rattle.parts.proofs.KeptShapes.{kept-first, kept-count, any-counted, any-named}
 
@@ -163,7 +163,7 @@ pub why-place : (n : ℕ) (p : Place) (l : List ℕ) → giving sideBy (capWhy n
 unfolding capWhy capPlace
 why-place n p l = go (documentOf l) refl
   where
-    side : (es : List Element) → Placed outside es → sideBy (reasonIn p (areasOf es)) ≡ sideOf (anyHolds p es) (anyShape es)
+    side : (es : List Element) → Placed betweenAreas es → sideBy (reasonIn p (areasOf es)) ≡ sideOf (anyHolds p es) (anyShape es)
     side es k = rw (← kept-first p es k, ← kept-count p es k, ← any-named p es, ← any-counted p es) (side-by (fold (looked p) noShapes es))
 
     go :

@@ -33,6 +33,7 @@ pub record Area : Type 0 where
   pub polygons : List (List ℕ)
   pub circles : List (List ℕ)
 
+-- one without shapes
 abbrev pub noArea : Area
 noArea = record { polygons = []; circles = [] }
 

@@ -112,8 +112,8 @@ sightOf l e x = sightBy (eventRule l e) (textStart e) x
 -- ---- shapes
 
 -- an area starts
-abbrev pub begun : Shapes → Shapes
-begun f = record {
+abbrev pub withArea : Shapes → Shapes
+withArea f = record {
   areas = f .areas + 1;
   polygons = 0;
   circles = 0;
@@ -124,8 +124,8 @@ begun f = record {
 }
 
 -- a shape of a class is counted
-abbrev pub counted : ℕ → Shapes → Shapes
-counted c f = record {
+abbrev pub withShape : ℕ → Shapes → Shapes
+withShape c f = record {
   areas = f .areas;
   polygons = f .polygons + boolByte (eqb c class.polygon);
   circles = f .circles + boolByte (eqb c class.circle);
@@ -156,8 +156,8 @@ isNamed f = not (eqb (f .class) 0)
 
 abbrev pub added : Shown → Shapes → Shapes
 added shown.Nothing f = f
-added shown.Area f = begun f
-added (shown.Shape c holds) f = cond holds (named c (counted c f)) (counted c f)
+added shown.Area f = withArea f
+added (shown.Shape c holds) f = cond holds (named c (withShape c f)) (withShape c f)
 
 -- an element of the part
 abbrev pub looked : Place → Shapes → Element → Shapes

@@ -21,7 +21,7 @@ ghost use Rattle.rules.specs.Texts.{textRule};
 ghost use Rattle.parts.specs.declared.Shown.the-variants.{Nothing, Shape};
 ghost use Rattle.parts.specs.Places.{isShape, shapeHolds, askedAbout};
 ghost use Rattle.parts.specs.Reasons.{reasonOf, whyAnswer};
-ghost use Rattle.parts.specs.Gathering.{shapeAnswer, shownText, shownIn, shownTag, sightBy, sightOf, begun, counted, lastPosition, named, added, viewOf, kindOf, namedShape, most, AtMost};
+ghost use Rattle.parts.specs.Gathering.{shapeAnswer, shownText, shownIn, shownTag, sightBy, sightOf, withArea, withShape, lastPosition, named, added, viewOf, kindOf, namedShape, most, AtMost};
 
 // Whether the shape that a text of a class writes holds a place. A class that is no polygon's is taken for a circle's.
 fn shape_answer(place: Place, class: usize, t: &[u8]) -> Inclusion
@@ -95,7 +95,7 @@ fn see(s: &[u8], asked: bool, named: bool, place: Place, event: Event) -> Sight
 // An area starts.
 fn start_area(f: Shapes) -> Shapes
     requires { ⌜ AtMost most f ⌝ }
-    ensures { λ r. ⌜ r ≡ begun f ⌝ }
+    ensures { λ r. ⌜ r ≡ withArea f ⌝ }
 {
     Shapes {
         areas: f.areas + 1,
@@ -111,7 +111,7 @@ fn start_area(f: Shapes) -> Shapes
 // A shape of a class, counted.
 fn count_shape(class: usize, f: Shapes) -> Shapes
     requires { ⌜ AtMost most f ⌝ }
-    ensures { λ r. ⌜ r ≡ counted class f ⌝ }
+    ensures { λ r. ⌜ r ≡ withShape class f ⌝ }
 {
     Shapes {
         areas: f.areas,
