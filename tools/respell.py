@@ -136,7 +136,8 @@ def main():
     for path in paths:
         text = open(path, encoding="utf-8").read()
         ext = os.path.splitext(path)[1]
-        here = {old: new for old, new in rows.items() if old not in from_libraries(text, own)}
+        others = from_libraries(text, own)
+        here = {old: new for old, new in rows.items() if old not in others}
         if "/proofs/" in path:
             here.update(LEMMAS)
         if ext in (".antt", ".rt"):
