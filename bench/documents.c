@@ -78,7 +78,7 @@ static void libxml2(void *of) {
 
 static void sentences(struct row *row, bool last) {
     for (size_t i = 0; i < row->count; i++) {
-        uint8_t buffer[WARNBOX_LONGEST_SENTENCE];
+        uint8_t buffer[651];
         size_t value;
         size_t parts = row->documents[i].parts, part = last || parts == 0 ? parts : 1;
         uint8_t refusal = warnbox_document_sentence(buffer, sizeof buffer, 0, row->documents[i].bytes, row->documents[i].length, part, &value);

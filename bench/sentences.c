@@ -1,4 +1,4 @@
-/* Writing sentences behind one another, half CAP and half WARN, in each wording, and reading them back. */
+/* Writing sentences behind one another, half CAP and half WARN, and reading them back. */
 #include <string.h>
 
 #include "clock.h"
@@ -6,39 +6,32 @@
 
 enum { SHEETS = 10000, SENDER = 12 };
 
-enum { PLAIN, CHECKED, WORDINGS };
-
-static struct warnbox_sheet sheets[WORDINGS][SHEETS]; /* the same facts in each wording */
+static struct warnbox_sheet sheets[SHEETS];
 static uint8_t names[SHEETS * 8 + SENDER]; /* the sender, and behind it the names of all CAP sheets */
 static size_t names_length;
 
 /* A text of the first `count` sheets' sentences. */
-struct text { const char *name; const struct warnbox_sheet *sheets; size_t count, length; uint8_t bytes[4 << 20]; };
-static struct text texts[] = {
-    {"1,000", sheets[PLAIN], 1000}, {"10,000", sheets[PLAIN], SHEETS}, {"1,000 checked", sheets[CHECKED], 1000}, {"10,000 checked", sheets[CHECKED], SHEETS}};
-enum { SHORT, LONG, SIZES, TEXTS = WORDINGS * SIZES };
+struct text { const char *name; size_t count, length; uint8_t bytes[4 << 20]; };
+static struct text texts[] = {{"1,000", 1000}, {"10,000", SHEETS}};
+enum { SHORT, LONG, TEXTS };
 enum { WRITE, COUNT, READ, RUNNERS };
 
 static void make_sheets(void) {
     memcpy(names, "kiln.example", names_length = SENDER);
     for (size_t i = 0; i < SHEETS; i++) {
-        struct warnbox_sheet *sheet = &sheets[PLAIN][i];
-        sheet->wording = WARNBOX_PLAIN;
         if (i % 2) {
-            sheet->kind = WARNBOX_WARN;
-            sheet->facts.warn = (struct warnbox_warn){
+            sheets[i].kind = WARNBOX_WARN;
+            sheets[i].facts.warn = (struct warnbox_warn){
                 .urgent = i % 3 == 0, .cancel = i % 5 == 0, .event = 7919 * i, .number = i, .origin = 21, .lasting = 1 + i * 37 * 83 % 31536000,
                 .hazard = i % 256, .urgency = 3, .severity = 2, .certainty = 1};
         } else {
             size_t length = (size_t)sprintf((char *)names + names_length, "A%zu", i);
-            sheet->kind = WARNBOX_CAP;
-            sheet->facts.cap = (struct warnbox_cap){
+            sheets[i].kind = WARNBOX_CAP;
+            sheets[i].facts.cap = (struct warnbox_cap){
                 .message = 1 + i % 3, .status = 1, .scope = 1, .part = 1, .total = 1 + i % 16, .urgency = 1 + i % 5, .severity = 1 + i / 5 % 5,
                 .certainty = 1, .stated = 1, .lasting = 900 + i, .sender_length = SENDER, .name_start = names_length, .name_length = length};
             names_length += length;
         }
-        sheets[CHECKED][i] = *sheet;
-        sheets[CHECKED][i].wording = WARNBOX_CHECKED;
     }
 }
 
@@ -48,7 +41,7 @@ static void write_all(void *of) {
     struct text *text = of;
     size_t end = 0;
     for (size_t i = 0; i < text->count; i++) {
-        demand(warnbox_write(text->bytes, sizeof text->bytes, end, names, names_length, &text->sheets[i], &end) == 0, "a sheet isn't written", text->name);
+        demand(warnbox_write(text->bytes, sizeof text->bytes, end, names, names_length, &sheets[i], &end) == 0, "a sheet isn't written", text->name);
     }
     text->length = end;
 }
@@ -64,7 +57,7 @@ static void read_last(void *of) {
     struct warnbox_sheet sheet;
     size_t count;
     uint8_t refusal = warnbox_read_back(text->bytes, text->length, text->count, &sheet, &count);
-    demand(refusal == 0 && count == text->count && sheet.kind == text->sheets[text->count - 1].kind, "the last sheet isn't read back", text->name);
+    demand(refusal == 0 && count == text->count && sheet.kind == sheets[text->count - 1].kind, "the last sheet isn't read back", text->name);
 }
 
 /* All of a sheet that is read back is as it was written. */
@@ -74,8 +67,7 @@ static void compare(struct text *text, size_t i) {
     memset(&sheet, 0, sizeof sheet);
     demand(warnbox_read_back(text->bytes, text->length, i + 1, &sheet, &count) == 0, "a sheet isn't read back", text->name);
     if (sheet.kind == WARNBOX_CAP) {
-        struct warnbox_cap *cap = &sheet.facts.cap;
-        const struct warnbox_cap *wanted = &text->sheets[i].facts.cap;
+        struct warnbox_cap *cap = &sheet.facts.cap, *wanted = &sheets[i].facts.cap;
         demand(cap->sender_length == wanted->sender_length && cap->name_length == wanted->name_length
                    && memcmp(text->bytes + cap->sender_start, names + wanted->sender_start, cap->sender_length) == 0
                    && memcmp(text->bytes + cap->name_start, names + wanted->name_start, cap->name_length) == 0,
@@ -83,7 +75,7 @@ static void compare(struct text *text, size_t i) {
         cap->sender_start = wanted->sender_start;
         cap->name_start = wanted->name_start;
     }
-    demand(memcmp(&sheet, &text->sheets[i], sizeof sheet) == 0, "another sheet is read back", text->name);
+    demand(memcmp(&sheet, &sheets[i], sizeof sheet) == 0, "another sheet is read back", text->name);
 }
 
 int main(void) {
@@ -109,12 +101,8 @@ int main(void) {
         }
     }
     growths("a byte", "1,000 sentences", "10,000");
-    for (size_t k = 0; k < TEXTS; k += SIZES) {
-        for (size_t j = 0; j < RUNNERS; j++) {
-            char name[64];
-            snprintf(name, sizeof name, "%s%s", what[j], k == 0 ? "" : ", checked");
-            growth(name, runners[k + SHORT][j].least / (double)texts[k + SHORT].length, runners[k + LONG][j].least / (double)texts[k + LONG].length);
-        }
+    for (size_t j = 0; j < RUNNERS; j++) {
+        growth(what[j], runners[SHORT][j].least / (double)texts[SHORT].length, runners[LONG][j].least / (double)texts[LONG].length);
     }
     return 0;
 }

@@ -1,6 +1,6 @@
-/* Reads a WARN packet from a file, shows what the signature chip needs and its sentence in both wordings, and receives it twice into an event table: the
- * second time it is refused, since its number isn't above the one that is stored. Then the running events are listed (a packet with the CANCEL flag leaves
- * none), and the table is swept.
+/* Reads a WARN packet from a file, shows what the signature chip needs, and receives it twice into an event table: the second time it is refused,
+ * since its number isn't above the one that is stored. Then the running events are listed (a packet with the CANCEL flag leaves none), and the table is
+ * swept.
  *
  *     rt staticlib warnbox && cc -Iinclude examples/receipt.c target/staticlib/libwarnbox.a -o target/receipt
  *     xxd -r -p tests/vectors/warn-01-sample.hex > target/packet && target/receipt target/packet
@@ -31,15 +31,10 @@ static void print_span(const char *what, struct warnbox_span span) {
     printf("%s: %zu bytes from %zu on", what, span.length, span.start);
 }
 
-static void print_sentence(const struct warnbox_sheet *sheet) {
-    uint8_t sentence[WARNBOX_LONGEST_SENTENCE];
-    size_t end = 0;
-    if (warnbox_write(sentence, sizeof sentence, 0, NULL, 0, sheet, &end) == 0) fwrite(sentence, 1, end, stdout);
-}
-
 static void print_packet(const struct warnbox_packet *packet) {
+    uint8_t sentence[WARNBOX_LONGEST_SENTENCE];
     struct warnbox_sheet sheet;
-    size_t length = packet->signature.start + packet->signature.length;
+    size_t end = 0, length = packet->signature.start + packet->signature.length;
     printf("event %" PRIu32 ", number %u, key %" PRIu32 "\n", packet->event, (unsigned)packet->sequence, packet->key);
     print_span("signed", packet->signed_bytes);
     print_span("; TLV block", packet->tlv);
@@ -47,10 +42,8 @@ static void print_packet(const struct warnbox_packet *packet) {
     printf("\nsignature ");
     for (size_t i = 0; i < packet->signature.length; i++) printf("%02x", (unsigned)bytes[packet->signature.start + i]);
     printf("\n");
-    if (warnbox_packet_sheet(bytes, length, &sheet) == 0) {
-        print_sentence(&sheet); /* a sheet is drawn in the plain wording */
-        sheet.wording = WARNBOX_CHECKED;
-        print_sentence(&sheet);
+    if (warnbox_packet_sheet(bytes, length, &sheet) == 0 && warnbox_write(sentence, sizeof sentence, 0, NULL, 0, &sheet, &end) == 0) {
+        fwrite(sentence, 1, end, stdout);
     }
 }
 

@@ -31,11 +31,11 @@ extern "C" {
 #endif
 
 /* Major times 10,000, minor times 100 and patch; warnbox_version gives that of the archive. */
-#define WARNBOX_VERSION 30000
+#define WARNBOX_VERSION 20100
 uint32_t warnbox_version(void);
 
 /* in bytes */
-#define WARNBOX_LONGEST_SENTENCE 723 /* its newline among them, in either wording */
+#define WARNBOX_LONGEST_SENTENCE 651 /* its newline among them */
 #define WARNBOX_LONGEST_DOCUMENT 65536
 #define WARNBOX_LONGEST_PACKET 1200
 #define WARNBOX_LONGEST_NAME 64 /* of a refusal */
@@ -135,18 +135,8 @@ struct warnbox_warn {
     uint64_t hazard, kind, urgency, severity, certainty, response;
 };
 
-/* How the lasting time is said. In the checked wording each of its numbers is followed by "as" and its decimal digits in words, so that one misheard word
- * never passes for another time: with one number word of the lasting time replaced by another the sentence is no read-back. The wording is a fact of
- * every sheet, also of one without a lasting time: the sentence's opening tells it. */
-enum warnbox_wording {
-    WARNBOX_PLAIN = 1,  /* "cap ..., lasts one hour five minutes." */
-    WARNBOX_CHECKED = 2 /* "checked cap ..., lasts one as one hour five as five minutes." */
-};
-
-/* A sheet that a function draws is in the plain wording; the caller may set the other. One that was read back has the wording of its sentence. */
 struct warnbox_sheet {
-    uint64_t kind;    /* WARNBOX_CAP or WARNBOX_WARN */
-    uint64_t wording; /* WARNBOX_PLAIN or WARNBOX_CHECKED */
+    uint64_t kind; /* WARNBOX_CAP or WARNBOX_WARN */
     union {
         struct warnbox_cap cap;
         struct warnbox_warn warn;
@@ -184,13 +174,13 @@ struct warnbox_why {
 /* Checks a document. *value: its number of parts, 0 to 16. Refusals: 14 to 19 and 22. */
 uint8_t warnbox_check_document(const uint8_t *document, size_t document_length, size_t *value);
 
-/* Writes the sentence of a part, in the plain wording, into a buffer from `start` on. Parts are counted from 1; a document that has none is asked for
- * part 0. For the checked wording, draw the sheet, set its wording, and write it. *value: the next start. Refusals: the document's own, then 21, 7, 13. */
+/* Writes the sentence of a part into a buffer from `start` on. Parts are counted from 1; a document that has none is asked for part 0.
+ * *value: the next start. Refusals: the document's own, then 21, 7, 13. */
 uint8_t warnbox_document_sentence(uint8_t *buffer, size_t buffer_length, size_t start, const uint8_t *document, size_t document_length,
                                   size_t part, size_t *value);
 
-/* Gives the sheet of a part, in the plain wording. Its sender and name stand in the document, which is then the text that warnbox_write takes; to
- * keep the sheet longer than the document, copy the two and set where they stand. *value: 0. Refusals: the document's own, then 21, 7. */
+/* Gives the sheet of a part. Its sender and name stand in the document, which is then the text that warnbox_write takes; to keep the sheet longer than
+ * the document, copy the two and set where they stand. *value: 0. Refusals: the document's own, then 21, 7. */
 uint8_t warnbox_document_sheet(const uint8_t *document, size_t document_length, size_t part, struct warnbox_sheet *sheet, size_t *value);
 
 /* Whether a place lies inside a part. Latitude and longitude are in units of 1e-7 degree, south and west negative. Circles reach across the date line,
@@ -228,11 +218,11 @@ struct warnbox_packet {
 /* Gives the fields of a packet and where its other parts stand. Refusals: 1 to 7. */
 uint8_t warnbox_read_packet(const uint8_t *packet, size_t packet_length, struct warnbox_packet *parts);
 
-/* Writes the sentence of a packet, in the plain wording, into a buffer from `start` on. *value: the next start. Refusals: 1 to 7, then 13. */
+/* Writes the sentence of a packet into a buffer from `start` on. *value: the next start. Refusals: 1 to 7, then 13. */
 uint8_t warnbox_packet_sentence(uint8_t *buffer, size_t buffer_length, size_t start, const uint8_t *packet, size_t packet_length,
                                 size_t *value);
 
-/* Gives the sheet of a packet, in the plain wording. Refusals: 1 to 7. */
+/* Gives the sheet of a packet. Refusals: 1 to 7. */
 uint8_t warnbox_packet_sheet(const uint8_t *packet, size_t packet_length, struct warnbox_sheet *sheet);
 
 /* Whether a place lies inside a packet's circle, across the date line too. *value: WARNBOX_OUTSIDE or WARNBOX_INSIDE. Refusals: 1 to 7, then 6 for the place. */
@@ -300,9 +290,8 @@ WARNBOX_ASSERT(entry_expiry, offsetof(struct warnbox_entry, expiry) == 32);
 WARNBOX_ASSERT(event_size, sizeof(struct warnbox_event) == 8);
 WARNBOX_ASSERT(event_event, offsetof(struct warnbox_event, event) == 4);
 /* a header that is only read for another processor, where size_t is smaller, is no error: there is no archive to link */
-WARNBOX_ASSERT(sheet_size, sizeof(size_t) != 8 || sizeof(struct warnbox_sheet) == 16 * 8);
-WARNBOX_ASSERT(sheet_wording, offsetof(struct warnbox_sheet, wording) == 8);
-WARNBOX_ASSERT(sheet_facts, offsetof(struct warnbox_sheet, facts) == 16);
+WARNBOX_ASSERT(sheet_size, sizeof(size_t) != 8 || sizeof(struct warnbox_sheet) == 15 * 8);
+WARNBOX_ASSERT(sheet_facts, offsetof(struct warnbox_sheet, facts) == 8);
 WARNBOX_ASSERT(cap_sender, offsetof(struct warnbox_cap, sender_start) == 10 * 8);
 WARNBOX_ASSERT(warn_size, sizeof(struct warnbox_warn) == 14 * 8);
 WARNBOX_ASSERT(why_size, sizeof(size_t) != 8 || sizeof(struct warnbox_why) == 32);

@@ -43,7 +43,7 @@ receives() {
 for compiler in gcc clang; do
     command -v "$compiler" >/dev/null || continue
     for dialect in c99 c11 c17; do
-        for source in tests/c/calls.c tests/c/checked.c tests/c/running.c examples/sentence.c examples/receipt.c; do
+        for source in tests/c/calls.c tests/c/running.c examples/sentence.c examples/receipt.c; do
             try "$compiler $dialect" "$compiler" -std="$dialect" $warnings -Iinclude -fsyntax-only "$source"
         done
         try "$compiler $dialect, 32 bits" "$compiler" -m32 -ffreestanding -std="$dialect" $warnings -Iinclude -fsyntax-only tests/c/calls.c
@@ -59,11 +59,10 @@ try "calls on empty inputs" "$folder/calls"
 try "C++17, linked" g++ -x c++ -std=c++17 -O2 -Iinclude tests/c/calls.c -x none "$archive" -o "$folder/calls_cpp"
 try "calls on empty inputs, C++" "$folder/calls_cpp"
 
-for source in tests/c/checked.c tests/c/running.c examples/sentence.c examples/receipt.c; do
+for source in tests/c/running.c examples/sentence.c examples/receipt.c; do
     program=$(basename "$source" .c)
     try "$program, linked" gcc -std=c99 -O2 -Iinclude "$source" "$archive" -o "$folder/$program"
 done
-prints checked tests/c/checked.out
 prints running tests/c/running.out tests/c/running.in
 prints sentence tests/c/sentence.out <tests/vectors/007-I4.xml
 prints sentence tests/c/late-refusal.out <tests/c/late-refusal.xml

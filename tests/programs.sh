@@ -22,40 +22,15 @@ wanted=$(mktemp)
 coasts=$(mktemp -d)
 trap 'rm -rf "$got" "$wanted" "$coasts"' EXIT
 
-# expect_checked FILE ACTUAL-FILE: what tests/checked.out has for a document or packet, which is nothing for one that isn't there
-expect_checked() {
-    awk -v heading="# $1" '/^# / { its = $0 == heading; next } its' tests/checked.out >"$wanted"
-    expect "$1, checked" "$wanted" "$2"
-}
-
 for document in tests/vectors/*.xml tests/requests/*.xml; do
     target/bin/sentences <"$document" >"$got"
     expect "$document" "${document%.xml}.out" "$got"
-    target/bin/sentences checked <"$document" >"$got"
-    expect_checked "$document" "$got"
 done
 
 for packet in tests/vectors/*.hex; do
-    python3 -c 'import sys; sys.stdout.buffer.write(bytes.fromhex(open(sys.argv[1]).read()))' "$packet" >"$got.packet"
-    target/bin/packet_sentence <"$got.packet" >"$got"
+    python3 -c 'import sys; sys.stdout.buffer.write(bytes.fromhex(open(sys.argv[1]).read()))' "$packet" | target/bin/packet_sentence >"$got"
     expect "$packet" "${packet%.hex}.out" "$got"
-    target/bin/packet_sentence checked <"$got.packet" >"$got"
-    expect_checked "$packet" "$got"
 done
-rm -f "$got.packet"
-
-# expect_usage PROGRAM INPUT: its one argument is the word checked; for any other, or for two, it says how it is called
-expect_usage() {
-    echo "usage: $1 [checked] < $2" >"$wanted"
-    for argument in "" check Checked checkedx "checked " plain; do
-        target/bin/"$1" "$argument" </dev/null >"$got"
-        expect "$1 '$argument'" "$wanted" "$got"
-    done
-    target/bin/"$1" checked checked </dev/null >"$got"
-    expect "$1 checked checked" "$wanted" "$got"
-}
-expect_usage sentences DOCUMENT
-expect_usage packet_sentence PACKET
 
 # ask FOLDER: lines of FOLDER/places.txt: DOCUMENT LATITUDE LONGITUDE ANSWER, with "/" for a line's end in the answer; or "#" and what is said about them
 ask() {
@@ -77,19 +52,6 @@ expect "list_readbacks" "$got.all" "$got"
 (cat "$wanted"; echo "cap alert.") | target/bin/list_readbacks >"$got"
 echo "refused 23 at $(stat -c %s "$wanted")" >"$got.all"
 expect "list_readbacks, a damaged text" "$got.all" "$got"
-# as many as were written, in the checked wording and in both
-document=tests/requests/checked.xml
-target/bin/sentences checked <"$document" | target/bin/list_readbacks >"$got"
-(echo "6 read-backs"; target/bin/sentences checked <"$document") >"$got.all"
-expect "sentences checked | list_readbacks" "$got.all" "$got"
-(target/bin/sentences <"$document"; target/bin/sentences checked <"$document") >"$wanted"
-target/bin/list_readbacks <"$wanted" >"$got"
-(echo "12 read-backs"; cat "$wanted") >"$got.all"
-expect "list_readbacks, both wordings" "$got.all" "$got"
-# a plain opening with checked durations
-target/bin/sentences checked <"$document" | sed 's/^checked //' | target/bin/list_readbacks >"$got"
-echo "refused 23 at 0" >"$got.all"
-expect "list_readbacks, a duration of the other wording" "$got.all" "$got"
 # no answer about a part of an input: 2,048 lines of 146 bytes are more than the program holds
 yes "$(head -1 tests/vectors/007-I4.out)" | head -n 2048 | target/bin/list_readbacks >"$got"
 echo "input over 262144 bytes" >"$got.all"
@@ -99,7 +61,7 @@ yes "$(head -1 tests/vectors/007-I4.out)" | head -n 1795 >"$wanted"
 target/bin/list_readbacks <"$wanted" >"$got"
 expect "list_readbacks, a long text" "$got.all" "$got"
 echo "input can't be read" >"$got.all"
-for program in sentences "sentences checked" packet_sentence "packet_sentence checked" "inside 0 0" list_readbacks; do
+for program in sentences packet_sentence "inside 0 0" list_readbacks; do
     target/bin/$program <tests >"$got"
     expect "$program, a folder as its input" "$got.all" "$got"
 done

@@ -9,8 +9,7 @@ import sys
 sys.path.insert(0, os.path.join(os.path.dirname(__file__), "model"))
 import model02 as model
 
-ROOM = 2073
-READS = 18
+ROOM = 1020
 
 
 def cap(sender, name, part=None, lasts=None, message="alert", status="actual", scope="public"):
@@ -27,21 +26,12 @@ def warn(event, lasts):
 
 
 SAMPLES = [cap(b"kiln.example", b"A17", (1, 1), 900), cap(b"kiln.example", b"A18", message="cancel"), warn(7, 3900)]
-WARNINGS = [warn(4_294_967_295, 31_536_000), warn(1, 1)]
-LAST_PART = [cap(b"]]", b"]>", (16, 16), message="error", status="draft", scope="restricted")]
 SHEETS = SAMPLES + [
     cap(b"a", b"A", (0, 1)), cap(b"a", b"A", (2, 1)), cap(b"a", b"A", (1, 17)), cap(b"a", b"A", (1, 1), 31_536_001),
     cap(b"a,b", b"A", (1, 1), 900), cap(b"", b"A"), cap(b"a]]>", b"A"),
-    warn(0, 0), warn(1, 31_536_001),
-] + WARNINGS + LAST_PART + [{**sheet, "wording": "checked"} for sheet in SAMPLES + WARNINGS + LAST_PART] + SAMPLES
-
-# one read-back, and what isn't one: a duration of the other wording, and faults in the checked one
-LINE = b"%scap ack, test, private, from a, name b, part one of one, past, minor, likely, lasts %s.\n"
-LINES = [LINE % (opening, duration) for opening, duration in (
-    (b"checked ", b"fifteen as one five minutes"), (b"", b"fifteen as one five minutes"), (b"checked ", b"fifteen minutes"),
-    (b"checked ", b"fifteen minutes as one five"), (b"checked ", b"fifteen as five one minutes"), (b"checked ", b"fifteen as zero one five minutes"),
-    (b"checked ", b"fifteen as nine zero zero minutes"), (b"checked ", b"fifteen one five minutes"), (b"checked ", b"fifteen as one four minutes"),
-    (b"checked ", b"sixteen as one five minutes"))]
+    warn(0, 0), warn(1, 31_536_001), warn(4_294_967_295, 31_536_000), warn(1, 1),
+    cap(b"]]", b"]>", (16, 16), message="error", status="draft", scope="restricted"),
+] + SAMPLES
 
 
 def answered(text, k):
@@ -64,12 +54,10 @@ def main():
             out += b"end %d\n" % start
     out += buffer + b"\n"
     text = buffer[:start]
-    for k in range(READS):
+    for k in range(12):
         out += answered(text, k)
     damaged = b"".join(b"cap ack, %s, private, from a, name b, no parts.\n" % status for status in (b"test", b"Test"))
     out += answered(damaged, 1) + answered(damaged, 0)
-    for line in LINES:
-        out += answered(line, 1)
     open(os.path.join(os.path.dirname(__file__), "..", "crates", "readback_test", "stdout"), "wb").write(out)
     print(len(out), "bytes")
 

@@ -114,27 +114,7 @@ def durations():
     picked = {1, 2, 59, 60, 61, 62, 119, 120, 121, 3_599, 3_600, 3_601, 3_660, 3_661, 3_662, 3_720, 3_900, 7_199, 7_200,
               7_261, 900, 3_780, 16_200, 21_300, 86_399, 86_400, 86_401, 86_460, 90_000, 90_061, 172_799, 172_800, 176_461,
               1_779_044, 31_535_999, 31_536_000}
-    # counts whose digits repeat or have zeros among them, and those that no sheet has but the functions take
-    picked |= {days * 86_400 for days in (10, 11, 20, 21, 99, 100, 101, 110, 111, 202, 330, 364, 1_000, 10_010, 49_710)}
     return sorted(picked)
-
-
-CHECKED_DURATIONS = (1, 10, 60, 900, 3_900, 39_671, 86_400, 90_061, 8_640_000, 9_072_010, 29_288_318, 31_536_000, 4_294_967_295)
-
-
-def both_wordings(seconds):
-    """What the program writes of a number of seconds."""
-    return f"{seconds} {model.duration(seconds)}, {model.duration(seconds, 'checked')}"
-
-
-# What nobody wrote as one duration, and what reading answers; by the rule in crates/words/specs/Reading.antt: the number words after "as" aren't looked
-# at, since the reader of sentences writes anew what it read and compares.
-ODD_DURATIONS = (
-    (" one days", 86_400), (" two day", 2 * 86_400), (" five seconds one minute", 65), (" zero days one second", 1), (" one minute, x", 60),
-    (" one as one days", 86_400), (" fifteen as five one minutes", 900), (" fifteen as nine hundred minutes", 900), (" fifteen as minutes", 900),
-    (" as one five minutes", 0), (" one as one hour five minutes", 3_900), (" one hour five as five minutes", 3_900), (" one as one as one hour", 0),
-    (" one hour as one", 3_600), (" one as one hour, as", 3_600), (" one one hour", 2 * 3_600), (" as", 0), (" one as", 0), (" one As one hour", 0),
-    (" one ass one hour", 0), (" one a one hour", 0), (" one  as one hour", 0))
 
 
 def value_of(spoken):
@@ -320,11 +300,9 @@ def main():
     for spoken in ("one", "", " ", "  one", " One", " and", " onetwo"):
         add("N", spoken, "0 zero")
     for s in durations():
-        add("D", " " + model.duration(s), both_wordings(s))
-    for s in CHECKED_DURATIONS:
-        add("D", " " + model.duration(s, "checked"), both_wordings(s))
-    for spoken, s in ODD_DURATIONS:
-        add("D", spoken, both_wordings(s))
+        add("D", " " + model.duration(s), f"{s} {model.duration(s)}")
+    for spoken, s in ((" one days", 1 * 86_400), (" two day", 2 * 86_400), (" five seconds one minute", 65), (" zero days one second", 1), (" one minute, x", 60)):
+        add("D", spoken, f"{s} {model.duration(s)}")
     for text in decimals():
         add("A", text, degrees_answer(text, model.LAT_LIMIT))
         add("O", text, degrees_answer(text, model.LON_LIMIT))

@@ -11,7 +11,7 @@
 static int checks = 0;
 
 static int check_texts(void) {
-    struct warnbox_sheet sheet = {WARNBOX_WARN, WARNBOX_CHECKED, {{1, 2, 3, 4, 5, 6, 7, 8, 9, 10, 11, 12, 13, 14}}};
+    struct warnbox_sheet sheet = {WARNBOX_WARN, {{1, 2, 3, 4, 5, 6, 7, 8, 9, 10, 11, 12, 13, 14}}};
     size_t value = 7;
     CHECK(warnbox_version() == WARNBOX_VERSION);
     CHECK(warnbox_refusal_name(NULL, 0, 0, WARNBOX_TIME, &value) == WARNBOX_NO_ROOM && value == 0);
@@ -20,7 +20,6 @@ static int check_texts(void) {
     CHECK(warnbox_write(NULL, 0, 0, NULL, 0, &sheet, &value) == WARNBOX_NOT_READ_BACKS);
     CHECK(warnbox_count(NULL, 0, &value) == 0 && value == 0);
     CHECK(warnbox_read_back(NULL, 0, 1, &sheet, &value) == WARNBOX_NOT_THERE && sheet.facts.warn.urgent == 1);
-    CHECK(sheet.kind == WARNBOX_WARN && sheet.wording == WARNBOX_CHECKED);
     CHECK(warnbox_check_document(NULL, 0, &value) != 0);
     CHECK(warnbox_document_sentence(NULL, 0, 0, NULL, 0, 1, &value) != 0);
     CHECK(warnbox_document_sheet(NULL, 0, 1, &sheet, &value) != 0 && sheet.facts.warn.response == 14);
@@ -119,96 +118,13 @@ static int check_same(void) {
 
 static int check_packets(void) {
     static struct warnbox_packet parts;
-    struct warnbox_sheet sheet = {WARNBOX_CAP, WARNBOX_CHECKED, {{0, 0, 0, 0, 0, 0, 0, 0, 0, 0, 0, 0, 0, 0}}};
+    struct warnbox_sheet sheet = {WARNBOX_CAP, {{0, 0, 0, 0, 0, 0, 0, 0, 0, 0, 0, 0, 0, 0}}};
     size_t value = 7;
     parts.radius = 9;
     CHECK(warnbox_read_packet(NULL, 0, &parts) == WARNBOX_PACKET_TOO_SHORT && parts.radius == 9);
     CHECK(warnbox_packet_sentence(NULL, 0, 0, NULL, 0, &value) == WARNBOX_PACKET_TOO_SHORT && value == 0);
-    CHECK(warnbox_packet_sheet(NULL, 0, &sheet) == WARNBOX_PACKET_TOO_SHORT && sheet.kind == WARNBOX_CAP && sheet.wording == WARNBOX_CHECKED);
+    CHECK(warnbox_packet_sheet(NULL, 0, &sheet) == WARNBOX_PACKET_TOO_SHORT && sheet.kind == WARNBOX_CAP);
     CHECK(warnbox_packet_place(NULL, 0, 0, 0, &value) == WARNBOX_PACKET_TOO_SHORT);
-    return 0;
-}
-
-/* ---- the wordings */
-
-static int is_same(const void *bytes, const void *others, size_t length) {
-    size_t i = 0;
-    while (i < length && ((const uint8_t *)bytes)[i] == ((const uint8_t *)others)[i]) i++;
-    return i == length;
-}
-
-static uint8_t plain[WARNBOX_LONGEST_SENTENCE], checked[WARNBOX_LONGEST_SENTENCE + 1], untouched[WARNBOX_LONGEST_SENTENCE + 1]; /* zeros */
-static const uint8_t names[] = {'a', 'b'}; /* a sender, and a name */
-static const struct warnbox_sheet cap_sheet = {WARNBOX_CAP, WARNBOX_PLAIN, {{1, 1, 1, 1, 1, 1, 1, 1, 1, 3900, 0, 1, 1, 1}}};
-static const struct warnbox_sheet longest_sheet = {
-    WARNBOX_WARN, WARNBOX_CHECKED, {{1, 1, 1, 1, 3777777777, 38878, 3777777777, 29288318, 178, 178, 178, 178, 178, 178}}};
-
-static int is_out_of_range(uint64_t wording) {
-    struct warnbox_sheet sheet = cap_sheet;
-    size_t value = 7;
-    sheet.wording = wording;
-    return warnbox_write(checked, sizeof checked, 0, names, 2, &sheet, &value) == WARNBOX_NOT_READ_BACKS && value == 0
-           && is_same(checked, untouched, sizeof checked);
-}
-
-static int check_wording_range(void) {
-    CHECK(is_out_of_range(0) && is_out_of_range(3) && is_out_of_range(UINT64_MAX));
-    CHECK(is_out_of_range(WARNBOX_CHECKED + ((uint64_t)1 << 8)) && is_out_of_range(WARNBOX_PLAIN + ((uint64_t)1 << 32)));
-    return 0;
-}
-
-/* The two sentences of one sheet are told apart, and their sheets differ in the wording alone, beside where the names stand. */
-static int check_wordings(void) {
-    struct warnbox_sheet sheet = cap_sheet, first, second;
-    size_t plain_end = 7, end = 7, value = 7;
-    CHECK(warnbox_write(plain, sizeof plain, 0, names, 2, &sheet, &plain_end) == 0);
-    sheet.wording = WARNBOX_CHECKED;
-    CHECK(warnbox_write(checked, sizeof checked, 0, names, 2, &sheet, &end) == 0);
-    CHECK(end == plain_end + sizeof "checked " - 1 + sizeof " as one" - 1 + sizeof " as five" - 1);
-    CHECK(is_same(checked, "checked cap alert", 17) && is_same(checked + 8, plain, 80) && !is_same(checked + 8, plain, plain_end));
-    CHECK(warnbox_read_back(plain, plain_end, 1, &first, &value) == 0 && first.wording == WARNBOX_PLAIN);
-    CHECK(warnbox_read_back(checked, end, 1, &second, &value) == 0 && second.wording == WARNBOX_CHECKED);
-    CHECK(second.facts.cap.sender_start == first.facts.cap.sender_start + 8 && second.facts.cap.name_start == first.facts.cap.name_start + 8);
-    second.wording = first.wording;
-    second.facts.cap.sender_start = first.facts.cap.sender_start;
-    second.facts.cap.name_start = first.facts.cap.name_start;
-    CHECK(is_same(&first, &second, sizeof first));
-    /* a plain opening with a checked duration, and the reverse */
-    CHECK(warnbox_count(checked + 8, end - 8, &value) == WARNBOX_NOT_READ_BACKS && value == 0);
-    CHECK(warnbox_write(checked, sizeof checked, 8, names, 2, &cap_sheet, &end) == 0 && is_same(checked + 8, plain, plain_end));
-    CHECK(warnbox_count(checked, end, &value) == WARNBOX_NOT_READ_BACKS && value == 0);
-    return 0;
-}
-
-/* The longest sentence has just the room that the header says. */
-static int check_longest(void) {
-    struct warnbox_sheet sheet = longest_sheet, read;
-    size_t value = 7;
-    for (size_t i = 0; i < sizeof checked; i++) checked[i] = 0;
-    CHECK(warnbox_write(checked, WARNBOX_LONGEST_SENTENCE - 1, 0, NULL, 0, &sheet, &value) == WARNBOX_NO_ROOM && value == 0);
-    CHECK(warnbox_write(checked, WARNBOX_LONGEST_SENTENCE, 1, NULL, 0, &sheet, &value) == WARNBOX_NO_ROOM && value == 0);
-    CHECK(is_same(checked, untouched, sizeof checked));
-    CHECK(warnbox_write(checked, WARNBOX_LONGEST_SENTENCE, 0, NULL, 0, &sheet, &value) == 0 && value == WARNBOX_LONGEST_SENTENCE);
-    CHECK(checked[WARNBOX_LONGEST_SENTENCE - 1] == '\n' && checked[WARNBOX_LONGEST_SENTENCE] == 0);
-    CHECK(warnbox_read_back(checked, WARNBOX_LONGEST_SENTENCE, 1, &read, &value) == 0 && value == 1 && is_same(&read, &sheet, sizeof sheet));
-    sheet.wording = WARNBOX_PLAIN;
-    CHECK(warnbox_write(checked, sizeof checked, 0, NULL, 0, &sheet, &value) == 0 && value == WARNBOX_LONGEST_SENTENCE - 72);
-    return 0;
-}
-
-/* A sheet that is drawn is in the plain wording, and its sentence is the one that is written without a sheet. */
-static int check_drawn(void) {
-    static uint8_t packet[132] = {'W', 'A', 'R', 'N', 1, 0, 0x80};
-    struct warnbox_sheet sheet = {0, 0, {{0, 0, 0, 0, 0, 0, 0, 0, 0, 0, 0, 0, 0, 0}}};
-    const uint8_t *document = (const uint8_t *)shapes;
-    size_t end = 7, value = 7;
-    packet[0x2D] = 60; /* it lasts a minute */
-    CHECK(warnbox_packet_sheet(packet, sizeof packet, &sheet) == 0 && sheet.kind == WARNBOX_WARN && sheet.wording == WARNBOX_PLAIN);
-    CHECK(warnbox_packet_sentence(plain, sizeof plain, 0, packet, sizeof packet, &end) == 0);
-    CHECK(warnbox_write(checked, sizeof checked, 0, NULL, 0, &sheet, &value) == 0 && value == end && is_same(plain, checked, end));
-    CHECK(warnbox_document_sheet(document, sizeof shapes - 1, 1, &sheet, &value) == 0 && sheet.kind == WARNBOX_CAP && sheet.wording == WARNBOX_PLAIN);
-    CHECK(warnbox_document_sentence(plain, sizeof plain, 0, document, sizeof shapes - 1, 1, &end) == 0);
-    CHECK(warnbox_write(checked, sizeof checked, 0, document, sizeof shapes - 1, &sheet, &value) == 0 && value == end && is_same(plain, checked, end));
     return 0;
 }
 
@@ -278,10 +194,6 @@ int main(void) {
     if (failed == 0) failed = check_why();
     if (failed == 0) failed = check_same();
     if (failed == 0) failed = check_packets();
-    if (failed == 0) failed = check_wording_range();
-    if (failed == 0) failed = check_wordings();
-    if (failed == 0) failed = check_longest();
-    if (failed == 0) failed = check_drawn();
     if (failed == 0) failed = check_tables();
     if (failed == 0) failed = check_no_list();
     if (failed == 0) failed = check_times();

@@ -9,7 +9,6 @@ import damages
 import documents
 import expected
 import shapes
-import sheet_calls
 from choices import chance
 
 model = expected.model
@@ -30,7 +29,7 @@ def case(rng):
     part = pick_part(rng, alert)
     number, _, sheet = yield "document_sheet", (document, part, choices.any_sheet(rng))
     if number == 0:
-        yield from sheet_calls.writings(rng, document, sheet)
+        yield "write", (*choices.room(rng, sentence_length(document, part)), document, sheet)
     for _ in range(places):
         part = pick_part(rng, alert)
         yield "document_place", (document, part, *pick_place(rng, alert, part))

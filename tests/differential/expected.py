@@ -15,12 +15,10 @@ import model02 as model
 SEQUENCES, CODES = model.SEQUENCES["1.2"], model.CODES["1.2"]
 
 CAP, WARN = 1, 2
-PLAIN, CHECKED = 1, 2
 PLACES = {"outside": 0, "inside": 1, "noshape": 2}
 SHAPES = {"polygon": 1, "circle": 2}
 
 # Codes in the order of the header, which numbers them from 1.
-WORDINGS = ("plain", "checked")
 MESSAGES = ("alert", "update", "cancel", "ack", "error")
 STATUSES = ("actual", "exercise", "system", "test", "draft")
 SCOPES = ("public", "restricted", "private")
@@ -30,7 +28,7 @@ CERTAINTIES = ("observed", "likely", "possible", "unlikely", "unknown")
 
 OUT_OF_RANGE = -1  # no fact of a sheet may be this
 
-VERSION = 30_000
+VERSION = 20_100
 NAMES = {1: b"packet too short", 2: b"not a WARN packet", 3: b"version not known", 4: b"not an alert", 5: b"packet too long",
          6: b"place out of range", 7: b"lasting time out of range", 8: b"key not listed", 9: b"signature not verified",
          10: b"sequence number not above the stored one", 11: b"no free entry in the table", 12: b"clock too late", 13: b"no room in the buffer",
@@ -246,11 +244,11 @@ def flag(number):
 
 def sheet_of(text, numbers):
     """The model's sheet for the header's numbers; a number that stands for nothing becomes a fact out of range."""
-    kind, wording, *facts = numbers
+    kind, *facts = numbers
     if kind == CAP:
-        return {**cap_sheet_of(text, *facts), "wording": code(WORDINGS, wording)}
+        return cap_sheet_of(text, *facts)
     if kind == WARN:
-        return {**warn_sheet_of(*facts), "wording": code(WORDINGS, wording)}
+        return warn_sheet_of(*facts)
     return {"kind": None}
 
 
@@ -282,14 +280,13 @@ def warn_sheet_of(urgent, update, cancel, test, event, number, origin, lasting, 
 
 def numbers_of(sheet, sender_start=None, name_start=None):
     """The header's numbers for a sheet whose sender and name start at these offsets of a text."""
-    wording = WORDINGS.index(sheet["wording"]) + 1
     if sheet["kind"] == "warn":
-        return (WARN, wording, *(int(sheet[fact]) for fact in (
+        return (WARN, *(int(sheet[fact]) for fact in (
             "urgent", "update", "cancel", "test", "event", "number", "origin", "lasts", "hazard", "kind2", "urgency", "severity", "certainty",
             "response")))
     rated = sheet["total"] != 0
     stated = sheet["lasts"] is not None
-    return (CAP, wording, MESSAGES.index(sheet["msgType"]) + 1, STATUSES.index(sheet["status"]) + 1, SCOPES.index(sheet["scope"]) + 1,
+    return (CAP, MESSAGES.index(sheet["msgType"]) + 1, STATUSES.index(sheet["status"]) + 1, SCOPES.index(sheet["scope"]) + 1,
             sheet["part"], sheet["total"],
             URGENCIES.index(sheet["urgency"]) + 1 if rated else 0,
             SEVERITIES.index(sheet["severity"]) + 1 if rated else 0,

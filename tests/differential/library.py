@@ -35,10 +35,10 @@ class Trespass(Exception):
 ENTRY_FIELDS = "B3xIIHBxQQQ"
 ENTRY = struct.Struct("<" + ENTRY_FIELDS)
 EVENT = struct.Struct("<2I")
-SHEET = struct.Struct("<16Q")             # kind, wording, then 14 numbers for either kind
+SHEET = struct.Struct("<15Q")             # kind, then 14 numbers for either kind
 WHY = struct.Struct("<4Q")                # area, kind, shape, count
 PACKET = struct.Struct("<4Q6Q2I2i3H10B")  # four times, three spans, numbers, flags and codes
-assert (ENTRY.size, EVENT.size, SHEET.size, WHY.size, PACKET.size) == (40, 8, 128, 32, 112)
+assert (ENTRY.size, EVENT.size, SHEET.size, WHY.size, PACKET.size) == (40, 8, 120, 32, 112)
 
 
 def packed(table):

@@ -7,7 +7,6 @@ import choices
 import damages
 import expected
 import shapes
-import sheet_calls
 from choices import any_number, chance
 
 model = expected.model
@@ -29,7 +28,7 @@ def case(rng):
         yield "packet_sentence", (*choices.room(rng, length), packet)
     number, sheet = yield "packet_sheet", (packet, choices.any_sheet(rng))
     if number == 0:
-        yield from sheet_calls.writings(rng, b"", sheet)
+        yield "write", (*choices.room(rng, length), b"", sheet)
     for _ in range(rng.randint(2, 4) if sound else 1):
         yield "packet_place", (packet, *shapes.place(rng, [], circles_of(packet)))
 

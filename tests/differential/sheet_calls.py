@@ -7,11 +7,9 @@ from choices import any_number, chance
 model = expected.model
 
 FAULTY_NAMES = (b"", b"a,b", b"a b", b"a<b", b"a&b", b"a\nb", b"\x00", b"\x20", b"\x1f", b"a]]>b", b"]]>", b"x]]]>", b"x" * 129, b"y" * 200)
-KIND_FACT, WORDING_FACT = 0, 1
-CODE_FACTS, PART_FACTS, STATED_FACT, LASTING_FACT = (2, 3, 4, 7, 8, 9, 10), (5, 6), 10, 11
-RATINGS = (7, 8, 9)  # urgency, severity, certainty
-NAME_FACTS = (12, 13, 14, 15)
-FLAG_FACTS, WARN_LASTING_FACT = (2, 3, 4, 5), 9
+CODE_FACTS, PART_FACTS, STATED_FACT, LASTING_FACT = (1, 2, 3, 6, 7, 8, 9), (4, 5), 9, 10
+RATINGS = (6, 7, 8)  # urgency, severity, certainty
+NAME_FACTS = (11, 12, 13, 14)
 
 
 def case(rng):
@@ -28,24 +26,14 @@ def case(rng):
             sheet = sheets.warn_numbers(rng)
             if chance(rng, 40):
                 out_of_range_warn(rng, sheet)
-        yield writing(rng, text, tuple(sheet))
+        sheet = tuple(sheet)
+        line = model.sentence(expected.sheet_of(text, sheet))
+        yield "write", (*choices.room(rng, len(line) if line else 150), text, sheet)
     if chance(rng, 20):
         number = rng.choice((rng.randrange(26), rng.getrandbits(8)))
         yield "refusal_name", (*choices.room(rng, len(expected.NAMES.get(number, b"a name"))), number)
     if chance(rng, 1):
         yield "version", ()
-
-
-def writing(rng, text, sheet):
-    """A call that writes a sheet into one room or another."""
-    line = model.sentence(expected.sheet_of(text, sheet))
-    return "write", (*choices.room(rng, len(line) if line else 150), text, sheet)
-
-
-def writings(rng, text, drawn):
-    """Calls that write a sheet that was drawn: as it is, and in the wording that the caller sets."""
-    yield writing(rng, text, drawn)
-    yield writing(rng, text, (drawn[KIND_FACT], expected.CHECKED, *drawn[WORDING_FACT + 1:]))
 
 
 def laid_out(rng):
@@ -71,17 +59,15 @@ def shifted(rng, number):
 
 
 def out_of_range_cap(rng, sheet, text):
-    kind = rng.randrange(13)
-    if kind < 2:
-        fact = rng.choice((KIND_FACT, WORDING_FACT))
-        sheet[fact] = rng.choice((0, 3, shifted(rng, sheet[fact])))
-    elif kind in (2, 12):
+    kind = rng.randrange(12)
+    if kind == 0:
+        sheet[0] = shifted(rng, sheet[0])
+    elif kind in (1, 2):
         fact = rng.choice(CODE_FACTS)
         sheet[fact] = rng.choice((0, 2, 3, 4, 5, 6, shifted(rng, sheet[fact])))
     elif kind in (3, 4):
         fact = rng.choice(PART_FACTS)
-        other = sheet[sum(PART_FACTS) - fact]
-        sheet[fact] = rng.choice((0, 1, 16, 17, other, other + 1, shifted(rng, sheet[fact])))
+        sheet[fact] = rng.choice((0, 1, 16, 17, sheet[9 - fact], sheet[9 - fact] + 1, shifted(rng, sheet[fact])))
     elif kind == 5:
         sheet[LASTING_FACT] = rng.choice((0, choices.LONGEST, choices.LONGEST + 1, shifted(rng, sheet[LASTING_FACT])))
     elif kind in (6, 7):
@@ -92,7 +78,7 @@ def out_of_range_cap(rng, sheet, text):
 
 def unsaid(rng, sheet):
     """Sets a fact that the sentence doesn't say: of part 0, or a lasting time that isn't stated."""
-    if sheet[PART_FACTS[1]] == 0:
+    if sheet[5] == 0:
         sheet[rng.choice((*RATINGS, STATED_FACT, LASTING_FACT))] = rng.choice((1, 5, 2 ** 32, any_number(rng, 64)))
     else:
         sheet[STATED_FACT], sheet[LASTING_FACT] = 0, rng.choice((0, 1, choices.lasting(rng), any_number(rng, 64)))
@@ -118,11 +104,9 @@ def misplace(rng, sheet, text):
 
 def out_of_range_warn(rng, sheet):
     fact = rng.randrange(len(sheet))
-    if fact in (KIND_FACT, WORDING_FACT):
-        sheet[fact] = rng.choice((0, 3, shifted(rng, sheet[fact])))
-    elif fact in FLAG_FACTS:
+    if fact in (1, 2, 3, 4):
         sheet[fact] = rng.choice((0, 1, 2, 255, shifted(rng, sheet[fact])))
-    elif fact == WARN_LASTING_FACT:
+    elif fact == 8:
         sheet[fact] = rng.choice((0, 1, choices.LONGEST, choices.LONGEST + 1, shifted(rng, sheet[fact])))
     else:
         sheet[fact] = rng.choice((255, 256, 65_535, 65_536, 2 ** 32 - 1, 2 ** 32, shifted(rng, sheet[fact])))

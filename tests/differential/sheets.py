@@ -10,8 +10,7 @@ def cap(rng):
     """A CAP sheet in range, as the model has it."""
     total = rng.choice((0, 0, 1, 1, 2, 16, rng.randint(1, 16)))
     rated = total > 0
-    return {"kind": "cap", "wording": rng.choice(expected.WORDINGS),
-            "msgType": rng.choice(expected.MESSAGES), "status": rng.choice(expected.STATUSES), "scope": rng.choice(expected.SCOPES),
+    return {"kind": "cap", "msgType": rng.choice(expected.MESSAGES), "status": rng.choice(expected.STATUSES), "scope": rng.choice(expected.SCOPES),
             "sender": choices.name(rng), "name": choices.name(rng), "part": rng.randint(1, total) if rated else 0, "total": total,
             "urgency": rng.choice(expected.URGENCIES) if rated else None, "severity": rng.choice(expected.SEVERITIES) if rated else None,
             "certainty": rng.choice(expected.CERTAINTIES) if rated else None,
@@ -20,26 +19,16 @@ def cap(rng):
 
 def warn(rng):
     """A WARN sheet in range, as the model has it."""
-    return expected.sheet_of(b"", warn_numbers(rng))
+    return expected.warn_sheet_of(*warn_numbers(rng)[1:])
 
 
 def any_sheet(rng):
     return cap(rng) if chance(rng, 50) else warn(rng)
 
 
-def any_lasting(rng):
-    """A sheet in range that states a lasting time."""
-    sheet = any_sheet(rng)
-    return sheet if sheet["lasts"] is not None else any_lasting(rng)
-
-
-def any_wording(rng):
-    return rng.choice((expected.PLAIN, expected.CHECKED))
-
-
 def warn_numbers(rng):
     facts = [choices.lasting(rng) if width is None else any_number(rng, width) for width in WARN_WIDTHS]
-    return [expected.WARN, any_wording(rng), *(rng.randrange(2) for _ in range(4)), *facts]
+    return [expected.WARN, *(rng.randrange(2) for _ in range(4)), *facts]
 
 
 def cap_numbers(rng, sender, name):
@@ -51,10 +40,9 @@ def cap_numbers(rng, sender, name):
     else:
         stated = rng.choice((0, 1, 1))
         rest = [rng.randint(1, total), total, *(rng.randint(1, 5) for _ in range(3)), stated, choices.lasting(rng) if stated else 0]
-    return [expected.CAP, any_wording(rng), *codes, *rest, *sender, *name]
+    return [expected.CAP, *codes, *rest, *sender, *name]
 
 
 def any_numbers(rng):
     """Numbers that may stand for no sheet at all."""
-    kind, wording = (rng.choice((0, 1, 1, 2, 2, 3, any_number(rng, 64))) for _ in range(2))
-    return [kind, wording, *(any_number(rng, rng.choice((1, 3, 5, 64))) for _ in range(14))]
+    return [rng.choice((0, 1, 1, 2, 2, 3, any_number(rng, 64))), *(any_number(rng, rng.choice((1, 3, 5, 64))) for _ in range(14))]

@@ -1,28 +1,21 @@
-"""Calls that count and read back texts of sentences in both wordings, sound and damaged."""
+"""Calls that count and read back texts of sentences, sound and damaged."""
 import choices
 import expected
 import sheets
-import wordings
 from choices import any_number, chance
 
 model = expected.model
 
 WORDS = [word.encode() for word in (
     "zero", "one", "two", "nine", "ten", "eleven", "twelve", "thirteen", "nineteen", "twenty", "thirty", "ninety", "hundred", "thousand", "million", "billion", "and",
-    "twenty-one", "day", "days", "hour", "hours", "minute", "minutes", "second", "seconds", "as", "checked", "plain", "no", "stated", "time", "parts", "part", "of", "lasts", "cap", "warn", "alert",
+    "twenty-one", "day", "days", "hour", "hours", "minute", "minutes", "second", "seconds", "no", "stated", "time", "parts", "part", "of", "lasts", "cap", "warn", "alert",
     "urgent", "update", "cancel", "test", "ack", "error", "actual", "draft", "public", "private", "immediate", "unknown", "observed", "extreme", "from", "name", "event",
     "number", "origin", "hazard", "kind", "urgency", "severity", "certainty", "response", "", ",", ".", "Alert", "ALERT", "0", "17", "seventeen", "sixty", "trillion")]
-LASTINGS = {  # that no sheet's sentence has
-    "plain": ("zero seconds", "sixty seconds", "sixty minutes", "twenty four hours", "one days", "two day", "one hour zero minutes", "one minute one hour", "", " ", "one",
-              "no stated  time", "three hundred sixty five days one second", "one day one day"),
-    "checked": ("zero as zero seconds", "sixty as six zero seconds", "sixty as six zero minutes", "twenty four as two four hours", "one as one days", "two as two day",
-                "one as one hour zero as zero minutes", "one as one minute one as one hour", "", " ", "one as one", "as", "no as no stated time",
-                "three hundred sixty five as three six five days one as one second", "one as one day one as one day", "three hundred sixty six as three six six days")}
 BYTES = (b"\n", b" ", b",", b".", b"\x00", b"\r", b"\t", b"a", b"s", b"-", b"&", b"<", b"]]>", b"\xff", b"\n\n", b"\r\n", b"  ", b", ")
 
 
 def case(rng):
-    text, length = misheard(rng) if chance(rng, 15) else pick(rng)
+    text, length = pick(rng)
     yield "count", (text,)
     for k in ks(rng, length):
         yield "read_back", (text, k, choices.any_sheet(rng))
@@ -35,17 +28,6 @@ def pick(rng):
         for _ in range(rng.choice((1, 1, 1, 2, 3))):
             damage(rng, lines)
     return b"".join(lines), len(lines)
-
-
-def misheard(rng):
-    """Read-backs in both wordings, and in one checked one a number word of its duration that was replaced by another. That this is refused at that
-    line's first byte is asked here too: [13] promises it, whatever the model says."""
-    lines = [model.sentence(sheets.any_sheet(rng)) for _ in range(rng.choice((1, 1, 2, 3, 5)))]
-    at = rng.randrange(len(lines))
-    lines[at] = wordings.misheard(rng)
-    text = b"".join(lines)
-    assert expected.count(text) == (23, sum(len(line) for line in lines[:at])), text
-    return text, len(lines)
 
 
 def how_many(rng):
@@ -64,7 +46,7 @@ def damage(rng, lines):
     if not lines:
         lines.append(rng.choice((b"\n", b" ", b".", b"cap", b"cap alert.\n", b"warn alert.\n", b"\x00")))
         return
-    kind = rng.randrange(12)
+    kind = rng.randrange(10)
     at = rng.randrange(len(lines))
     if kind < 2:
         damage_lines(rng, lines, at)
@@ -72,8 +54,6 @@ def damage(rng, lines):
         lines[at] = damaged_bytes(rng, lines[at])
     elif kind < 9:
         lines[at] = damaged_words(rng, lines[at])
-    elif kind < 11:
-        lines[at] = wordings.mixed(rng)
     else:
         lines[at] = wrong_sheet(rng)
 
@@ -118,15 +98,15 @@ def damaged_words(rng, line):
 
 def wrong_sheet(rng):
     """A line as the sentence of a sheet would be, but with one fact out of range, or with words that aren't the number's."""
-    wording = rng.choice(expected.WORDINGS)
-    opening = "checked " if wording == "checked" else ""
-    lasting = model.duration(choices.lasting(rng), wording)
+    lasting = model.duration(choices.lasting(rng))
     number = model.words(any_number(rng, 32))
     kind = rng.randrange(6)
     if kind == 0:
-        lasting = model.duration(rng.choice((choices.LONGEST + 1, choices.LONGEST + 86_400, 2 ** 32, 2 ** 33)), wording)
+        lasting = model.duration(rng.choice((choices.LONGEST + 1, choices.LONGEST + 86_400, 2 ** 32, 2 ** 33)))
     elif kind == 1:
-        lasting = rng.choice(LASTINGS[wording])
+        lasting = rng.choice(("zero seconds", "sixty seconds", "sixty minutes", "twenty four hours", "one days", "two day", "one hour zero minutes",
+                              "one minute one hour", "", " ", "one", "no stated  time", "three hundred sixty five days one second",
+                              "one day one day"))
     elif kind == 2:
         number = model.words(2 ** rng.choice((8, 16, 32)) + rng.choice((0, 1)))
     elif kind == 3:
@@ -134,7 +114,7 @@ def wrong_sheet(rng):
                              "nine hundred ninety nine billion", "one million billion", "zero thousand", "twenty zero", "one hundred hundred"))
     if chance(rng, 50):
         part, total = rng.choice((("one", number), (number, "sixteen"), ("two", "one"), ("zero", "zero"), ("one", "seventeen"), ("sixteen", "sixteen")))
-        return f"{opening}cap alert, actual, public, from a, name b, part {part} of {total}, past, minor, likely, lasts {lasting}.\n".encode()
+        return f"cap alert, actual, public, from a, name b, part {part} of {total}, past, minor, likely, lasts {lasting}.\n".encode()
     small = rng.choice((number, "two hundred fifty five", "two hundred fifty six", "seven"))
-    return (f"{opening}warn alert, event {number}, number {small}, origin one, lasts {lasting}, hazard one, kind {small}, urgency zero, severity zero, "
+    return (f"warn alert, event {number}, number {small}, origin one, lasts {lasting}, hazard one, kind {small}, urgency zero, severity zero, "
             f"certainty one, response two.\n").encode()

@@ -10,7 +10,6 @@ use lib.IntN.{ℤ, nat_abs, ◌-ℤ◌}
 use Rattle.text.specs.Answers.{Answer, gives, refuses, IfGiven}
 use Rattle.text.specs.Logic.{by_test, cond_cases, clash}
 use Rattle.time.specs.Time.{has_form, stamp_time, time_of}
-use Rattle.words.specs.declared.Wording.TheVariants.{Plain}
 use Rattle.codes.specs.Lists.{small}
 use Rattle.codes.specs.Values.{message_text, status_text, scope_text, urgency_text, severity_text, certainty_text}
 use Rattle.sheet.specs.declared.Lasting.{Lasting}
@@ -41,9 +40,8 @@ use Rattle.drawn.proofs.Drawn.{drawn_holds}
 
 -- ---- the statement
 
--- [13] "A sheet is drawn in 01's wording"; "codes in small letters"; "A fact sheet's sender and name are shown as parts of the lent document"
+-- "codes in small letters"; "A fact sheet's sender and name are shown as parts of the lent document"
 pub record AlertSays (l : List ℕ) (es : List Element) (f : CapFacts) (from to : Span) : Type 0 where
-  pub wording : f.wording ≡ Plain
   pub message : Every (Text class.msg_type (λ p t. message_text f.message ≡ small t)) (alert_of es)
   pub status : Every (Text class.status (λ p t. status_text f.status ≡ small t)) (alert_of es)
   pub scope : Every (Text class.scope (λ p t. scope_text f.scope ≡ small t)) (alert_of es)
@@ -151,7 +149,6 @@ module _ (l : List ℕ) (es : List Element) (d : document_of l ≡ gives es) whe
   unfolding text_rule
   alert_says ps =
       let o = alert_once l es d in record {
-        wording = refl;
         message = code_says l es d 0 class.msg_type (λ t. message_text (message_of t)) (λ t. refl) message_said o.msg_type;
         status = code_says l es d 0 class.status (λ t. status_text (status_of t)) (λ t. refl) status_said o.status;
         scope = code_says l es d 0 class.scope (λ t. scope_text (scope_of t)) (λ t. refl) scope_said o.scope;

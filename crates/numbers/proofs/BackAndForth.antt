@@ -13,7 +13,6 @@ use Rattle.codes.specs.declared.MessageType.{MessageType}
 use Rattle.codes.specs.declared.Status.{Status}
 use Rattle.codes.specs.declared.Scope.{Scope}
 use Rattle.codes.specs.declared.Urgency.{Urgency}
-use Rattle.words.specs.declared.Wording.{Wording}
 use Rattle.sheet.specs.declared.Lasting.{Lasting}
 use Rattle.sheet.specs.declared.Lasting.TheVariants.{Unstated, Seconds}
 use Rattle.sheet.specs.declared.Part.{Part}
@@ -31,9 +30,9 @@ use Rattle.sheet.specs.Sheet.{warn, is_lasting_time, is_parts, fits_packet, in_r
 use Rattle.sheet.specs.Reading.{sheet_in}
 use Rattle.sheet.proofs.Limits.{lasting_range, warn_range}
 use Rattle.numbers.specs.Numbers.{are_lasting, are_part, are_cap, lasting_from, part_from, cap_from, sender_from, name_from}
-use Rattle.numbers.specs.Numbers.{are_warn, warn_from, numbers_sheet, wording_number, stated_of, seconds_of, numbers_of_none, numbers_of_part, with_parts, cap_numbers, warn_numbers, numbers_of}
+use Rattle.numbers.specs.Numbers.{are_warn, warn_from, numbers_sheet, stated_of, seconds_of, numbers_of_none, numbers_of_part, with_parts, cap_numbers, warn_numbers, numbers_of}
 use Rattle.numbers.proofs.Tests.{joined_at}
-use Rattle.numbers.proofs.Flags.{wording_is, wording_back, flag_is, flag_back}
+use Rattle.numbers.proofs.Flags.{flag_is, flag_back}
 
 -- ---- CAP
 
@@ -66,14 +65,13 @@ lasting_back Unstated = refl
 lasting_back (Seconds s) = refl
 
 -- by cases on the part
-module _ (v : Wording) (x : MessageType) (y : Status) (z : Scope) (sender name : Span) where
-  parts_are : (p : Parts) → fits_numbers p ≡ true → are_cap (with_parts (wording_number v) (message_number x) (status_number y) (scope_number z) sender name p) ≡ true
+module _ (x : MessageType) (y : Status) (z : Scope) (sender name : Span) where
+  parts_are : (p : Parts) → fits_numbers p ≡ true → are_cap (with_parts (message_number x) (status_number y) (scope_number z) sender name p) ≡ true
   unfolding are_cap are_part numbers_of_none numbers_of_part
-  parts_are NoPart e = rw (wording_is v, (message_numbers x).listed, (status_numbers y).listed, (scope_numbers z).listed)
+  parts_are NoPart e = rw ((message_numbers x).listed, (status_numbers y).listed, (scope_numbers z).listed)
   parts_are (OnePart p) e =
       let t = part_tests p e in
       rw (
-        wording_is v,
         (message_numbers x).listed,
         (status_numbers y).listed,
         (scope_numbers z).listed,
@@ -88,13 +86,12 @@ module _ (v : Wording) (x : MessageType) (y : Status) (z : Scope) (sender name :
 
   parts_back :
       (p : Parts) → fits_numbers p ≡ true
-      → cap_from (with_parts (wording_number v) (message_number x) (status_number y) (scope_number z) sender name p)
-      ≡ record { wording = v; message = x; status = y; scope = z; parts = p }
+      → cap_from (with_parts (message_number x) (status_number y) (scope_number z) sender name p)
+      ≡ record { message = x; status = y; scope = z; parts = p }
   unfolding cap_from part_from numbers_of_none numbers_of_part
-  parts_back NoPart e = rw (wording_back v, (message_numbers x).back, (status_numbers y).back, (scope_numbers z).back)
+  parts_back NoPart e = rw ((message_numbers x).back, (status_numbers y).back, (scope_numbers z).back)
   parts_back (OnePart p) e =
       rw (
-        wording_back v,
         (message_numbers x).back,
         (status_numbers y).back,
         (scope_numbers z).back,
@@ -107,8 +104,8 @@ module _ (v : Wording) (x : MessageType) (y : Status) (z : Scope) (sender name :
 
   spans_back :
       (p : Parts)
-      → (sender_from (with_parts (wording_number v) (message_number x) (status_number y) (scope_number z) sender name p) ≡ sender)
-      × (name_from (with_parts (wording_number v) (message_number x) (status_number y) (scope_number z) sender name p) ≡ name)
+      → (sender_from (with_parts (message_number x) (status_number y) (scope_number z) sender name p) ≡ sender)
+      × (name_from (with_parts (message_number x) (status_number y) (scope_number z) sender name p) ≡ name)
   unfolding numbers_of_none numbers_of_part
   spans_back NoPart = (refl, refl)
   spans_back (OnePart p) = (refl, refl)
@@ -120,9 +117,9 @@ pub cap_back :
     × (sender_from (cap_numbers f sender name) ≡ sender)
     × (name_from (cap_numbers f sender name) ≡ name)
 cap_back f sender name e =
-    let spans = spans_back f.wording f.message f.status f.scope sender name f.parts in (
-      parts_are f.wording f.message f.status f.scope sender name f.parts e,
-      parts_back f.wording f.message f.status f.scope sender name f.parts e,
+    let spans = spans_back f.message f.status f.scope sender name f.parts in (
+      parts_are f.message f.status f.scope sender name f.parts e,
+      parts_back f.message f.status f.scope sender name f.parts e,
       spans.0,
       spans.1,
     )
@@ -151,7 +148,7 @@ pub warn_back :
     (w : WarnFacts) → fits_packet w ≡ true → w.lasting < 0x1_0000_0000 → (are_warn (warn_numbers w) ≡ true) × (warn_from (warn_numbers w) ≡ w)
 unfolding fits_packet are_warn warn_from warn_numbers
 warn_back w e h =
-    (simp (wording_is, flag_is, lt-ltb w.lasting 0x1_0000_0000 h) (rw (and_comm _ true) e), simp (wording_back, flag_back))
+    (simp (flag_is, lt-ltb w.lasting 0x1_0000_0000 h) (rw (and_comm _ true) e), simp flag_back)
 
 -- each sheet in range fits
 pub warn_fits : (w : WarnFacts) → in_range (warn w) ≡ true → (fits_packet w ≡ true) × (w.lasting < 0x1_0000_0000)

@@ -1,4 +1,4 @@
--- Every sheet has one form as numbers: 16 numbers that stand for a sheet are the numbers of that sheet.
+-- Every sheet has one form as numbers: 15 numbers that stand for a sheet are the numbers of that sheet.
 use mathlib.Core.Path.{◌≡◌, refl, ap}
 use mathlib.Core.Bool.{true, false}
 use mathlib.Core.List.{List, [], ◌∷◌}
@@ -14,7 +14,7 @@ use Rattle.codes.proofs.Each.{number_back_lem}
 use Rattle.numbers.specs.Numbers.{at, has_no_part, are_cap, part_from, cap_from, sender_from, name_from}
 use Rattle.numbers.specs.Numbers.{are_warn, warn_from, numbers_sheet, numbers_of_none, numbers_of_part, cap_numbers, warn_numbers, numbers_of}
 use Rattle.numbers.proofs.Tests.{joined_at, part_passed, cap_passed, part_there, warn_passed}
-use Rattle.numbers.proofs.Flags.{wording_number_lem, flag_number}
+use Rattle.numbers.proofs.Flags.{flag_number}
 
 -- ---- a list, spelt by what stands at each index
 
@@ -26,9 +26,9 @@ spelt_is : (n : List ℕ) → spelt (length n) (at n) ≡ n
 spelt_is [] = refl
 spelt_is (a ∷ n) = ap (◌∷◌ a) (spelt_is n)
 
-module _ (n : List ℕ) (sixteen : length n ≡ 16) where
-  all_spelt : spelt 16 (at n) ≡ n
-  all_spelt = rw sixteen at (spelt_is n)
+module _ (n : List ℕ) (fifteen : length n ≡ 15) where
+  all_spelt : spelt 15 (at n) ≡ n
+  all_spelt = rw fifteen at (spelt_is n)
 
   -- ---- CAP, without and with a part
 
@@ -38,19 +38,19 @@ module _ (n : List ℕ) (sixteen : length n ≡ 16) where
       let passed = cap_passed n e in
       let none =
       joined_at true
-      (eqb (at n 5) 0 ∷ eqb (at n 6) 0 ∷ eqb (at n 7) 0 ∷ eqb (at n 8) 0 ∷ eqb (at n 9) 0 ∷ eqb (at n 10) 0 ∷ eqb (at n 11) 0 ∷ [])
+      (eqb (at n 4) 0 ∷ eqb (at n 5) 0 ∷ eqb (at n 6) 0 ∷ eqb (at n 7) 0 ∷ eqb (at n 8) 0 ∷ eqb (at n 9) 0 ∷ eqb (at n 10) 0 ∷ [])
       h
       in
-      rw (h, wording_number_lem (at n 1) passed.wording, number_back_lem list.msg_type (at n 2) passed.message, number_back_lem list.status (at n 3) passed.status, number_back_lem list.scope (at n 4) passed.scope)
+      rw (h, number_back_lem list.msg_type (at n 1) passed.message, number_back_lem list.status (at n 2) passed.status, number_back_lem list.scope (at n 3) passed.scope)
       (rw (
         passed.first,
-        eqb-true (at n 5) 0 (none 0),
-        eqb-true (at n 6) 0 (none 1),
-        eqb-true (at n 7) 0 (none 2),
-        eqb-true (at n 8) 0 (none 3),
-        eqb-true (at n 9) 0 (none 4),
-        eqb-true (at n 10) 0 (none 5),
-        eqb-true (at n 11) 0 (none 6),
+        eqb-true (at n 4) 0 (none 0),
+        eqb-true (at n 5) 0 (none 1),
+        eqb-true (at n 6) 0 (none 2),
+        eqb-true (at n 7) 0 (none 3),
+        eqb-true (at n 8) 0 (none 4),
+        eqb-true (at n 9) 0 (none 5),
+        eqb-true (at n 10) 0 (none 6),
       ) at all_spelt)
 
   part_form : are_cap n ≡ true → has_no_part n ≡ false → cap_numbers (cap_from n) (sender_from n) (name_from n) ≡ n
@@ -60,13 +60,12 @@ module _ (n : List ℕ) (sixteen : length n ≡ 16) where
       let part = part_passed n (part_there n e h) in
       rw (
         h,
-        wording_number_lem (at n 1) passed.wording,
-        number_back_lem list.msg_type (at n 2) passed.message,
-        number_back_lem list.status (at n 3) passed.status,
-        number_back_lem list.scope (at n 4) passed.scope,
-        number_back_lem list.urgency (at n 7) part.urgency,
-        number_back_lem list.severity (at n 8) part.severity,
-        number_back_lem list.certainty (at n 9) part.certainty,
+        number_back_lem list.msg_type (at n 1) passed.message,
+        number_back_lem list.status (at n 2) passed.status,
+        number_back_lem list.scope (at n 3) passed.scope,
+        number_back_lem list.urgency (at n 6) part.urgency,
+        number_back_lem list.severity (at n 7) part.severity,
+        number_back_lem list.certainty (at n 8) part.certainty,
         part.lasting.stated_back,
         part.lasting.seconds_back,
       )
@@ -79,11 +78,10 @@ module _ (n : List ℕ) (sixteen : length n ≡ 16) where
   warn_form e =
       let passed = warn_passed n e in
       rw (
-        wording_number_lem (at n 1) passed.wording,
-        flag_number (at n 2) passed.urgent,
-        flag_number (at n 3) passed.update,
-        flag_number (at n 4) passed.cancel,
-        flag_number (at n 5) passed.test,
+        flag_number (at n 1) passed.urgent,
+        flag_number (at n 2) passed.update,
+        flag_number (at n 3) passed.cancel,
+        flag_number (at n 4) passed.test,
       )
       (rw passed.first at all_spelt)
 

@@ -10,7 +10,7 @@ use borrow.Author.Tests.{eqb-true, ltb-true}
 use Rattle.text.specs.Logic.{by_test, and_left, and_right}
 use Rattle.codes.specs.Lists as list
 use Rattle.codes.specs.Lists.{is_number}
-use Rattle.numbers.specs.Numbers.{at, is_wording, is_flag, has_no_part, are_lasting, are_part, are_cap, lasting_from, are_warn, stated_of, seconds_of}
+use Rattle.numbers.specs.Numbers.{at, is_flag, has_no_part, are_lasting, are_part, are_cap, lasting_from, are_warn, stated_of, seconds_of}
 
 -- ---- many tests, one after the other
 
@@ -57,40 +57,39 @@ lasting_passed stated seconds e =
 
 -- its numbers fit its fields, and those of codes are in their lists
 pub record PartPassed (n : List ℕ) : Type 0 where
-  pub number : at n 5 < 0x100
-  pub total : at n 6 < 0x100
-  pub urgency : is_number list.urgency (at n 7) ≡ true
-  pub severity : is_number list.severity (at n 8) ≡ true
-  pub certainty : is_number list.certainty (at n 9) ≡ true
-  pub lasting : LastingPassed (at n 10) (at n 11)
+  pub number : at n 4 < 0x100
+  pub total : at n 5 < 0x100
+  pub urgency : is_number list.urgency (at n 6) ≡ true
+  pub severity : is_number list.severity (at n 7) ≡ true
+  pub certainty : is_number list.certainty (at n 8) ≡ true
+  pub lasting : LastingPassed (at n 9) (at n 10)
 
 pub part_passed : (n : List ℕ) → are_part n ≡ true → PartPassed n
 unfolding are_part
 part_passed n e =
     let passed =
     joined_at true
-    (ltb (at n 5) 0x100 ∷ ltb (at n 6) 0x100 ∷ is_number list.urgency (at n 7) ∷ is_number list.severity (at n 8)
-    ∷ is_number list.certainty (at n 9) ∷ are_lasting (at n 10) (at n 11) ∷ [])
+    (ltb (at n 4) 0x100 ∷ ltb (at n 5) 0x100 ∷ is_number list.urgency (at n 6) ∷ is_number list.severity (at n 7)
+    ∷ is_number list.certainty (at n 8) ∷ are_lasting (at n 9) (at n 10) ∷ [])
     e
     in
     record {
-      number = ltb-true (at n 5) 0x100 (passed 0);
-      total = ltb-true (at n 6) 0x100 (passed 1);
+      number = ltb-true (at n 4) 0x100 (passed 0);
+      total = ltb-true (at n 5) 0x100 (passed 1);
       urgency = passed 2;
       severity = passed 3;
       certainty = passed 4;
-      lasting = lasting_passed (at n 10) (at n 11) (passed 5);
+      lasting = lasting_passed (at n 9) (at n 10) (passed 5);
     }
 
 -- ---- a CAP sheet
 
--- its kind is CAP's, its wording one of the two, and its numbers of codes are in their lists
+-- its kind is CAP's, and its numbers of codes are in their lists
 pub record CapPassed (n : List ℕ) : Type 0 where
   pub first : at n 0 ≡ 1
-  pub wording : is_wording (at n 1) ≡ true
-  pub message : is_number list.msg_type (at n 2) ≡ true
-  pub status : is_number list.status (at n 3) ≡ true
-  pub scope : is_number list.scope (at n 4) ≡ true
+  pub message : is_number list.msg_type (at n 1) ≡ true
+  pub status : is_number list.status (at n 2) ≡ true
+  pub scope : is_number list.scope (at n 3) ≡ true
   pub parts : has_no_part n || are_part n ≡ true
 
 pub cap_passed : (n : List ℕ) → are_cap n ≡ true → CapPassed n
@@ -98,16 +97,15 @@ unfolding are_cap
 cap_passed n e =
     let passed =
     joined_at true
-    (eqb (at n 0) 1 ∷ is_wording (at n 1) ∷ is_number list.msg_type (at n 2) ∷ is_number list.status (at n 3) ∷ is_number list.scope (at n 4) ∷ (has_no_part n || are_part n) ∷ [])
+    (eqb (at n 0) 1 ∷ is_number list.msg_type (at n 1) ∷ is_number list.status (at n 2) ∷ is_number list.scope (at n 3) ∷ (has_no_part n || are_part n) ∷ [])
     e
     in
     record {
       first = eqb-true (at n 0) 1 (passed 0);
-      wording = passed 1;
-      message = passed 2;
-      status = passed 3;
-      scope = passed 4;
-      parts = passed 5;
+      message = passed 1;
+      status = passed 2;
+      scope = passed 3;
+      parts = passed 4;
     }
 
 -- one that has a part has numbers that stand for the part
@@ -116,50 +114,48 @@ part_there n e h = rw h at (cap_passed n e).parts
 
 -- ---- a WARN sheet
 
--- its kind is WARN's, its wording one of the two, its flags are 0 or 1, and its numbers fit its fields
+-- its kind is WARN's, its flags are 0 or 1, and its numbers fit its fields
 pub record WarnPassed (n : List ℕ) : Type 0 where
   pub first : at n 0 ≡ 2
-  pub wording : is_wording (at n 1) ≡ true
-  pub urgent : is_flag (at n 2) ≡ true
-  pub update : is_flag (at n 3) ≡ true
-  pub cancel : is_flag (at n 4) ≡ true
-  pub test : is_flag (at n 5) ≡ true
-  pub event : at n 6 < 0x1_0000_0000
-  pub number : at n 7 < 0x1_0000
-  pub origin : at n 8 < 0x1_0000_0000
-  pub lasting : at n 9 < 0x1_0000_0000
-  pub hazard : at n 10 < 0x100
-  pub kind : at n 11 < 0x100
-  pub urgency : at n 12 < 0x100
-  pub severity : at n 13 < 0x100
-  pub certainty : at n 14 < 0x100
-  pub response : at n 15 < 0x100
+  pub urgent : is_flag (at n 1) ≡ true
+  pub update : is_flag (at n 2) ≡ true
+  pub cancel : is_flag (at n 3) ≡ true
+  pub test : is_flag (at n 4) ≡ true
+  pub event : at n 5 < 0x1_0000_0000
+  pub number : at n 6 < 0x1_0000
+  pub origin : at n 7 < 0x1_0000_0000
+  pub lasting : at n 8 < 0x1_0000_0000
+  pub hazard : at n 9 < 0x100
+  pub kind : at n 10 < 0x100
+  pub urgency : at n 11 < 0x100
+  pub severity : at n 12 < 0x100
+  pub certainty : at n 13 < 0x100
+  pub response : at n 14 < 0x100
 
 pub warn_passed : (n : List ℕ) → are_warn n ≡ true → WarnPassed n
 unfolding are_warn
 warn_passed n e =
     let passed =
     joined_at true
-    (eqb (at n 0) 2 ∷ is_wording (at n 1) ∷ is_flag (at n 2) ∷ is_flag (at n 3) ∷ is_flag (at n 4) ∷ is_flag (at n 5)
-    ∷ ltb (at n 6) 0x1_0000_0000 ∷ ltb (at n 7) 0x1_0000 ∷ ltb (at n 8) 0x1_0000_0000 ∷ ltb (at n 9) 0x1_0000_0000
-    ∷ ltb (at n 10) 0x100 ∷ ltb (at n 11) 0x100 ∷ ltb (at n 12) 0x100 ∷ ltb (at n 13) 0x100 ∷ ltb (at n 14) 0x100 ∷ ltb (at n 15) 0x100 ∷ [])
+    (eqb (at n 0) 2 ∷ is_flag (at n 1) ∷ is_flag (at n 2) ∷ is_flag (at n 3) ∷ is_flag (at n 4)
+    ∷ ltb (at n 5) 0x1_0000_0000 ∷ ltb (at n 6) 0x1_0000 ∷ ltb (at n 7) 0x1_0000_0000 ∷ ltb (at n 8) 0x1_0000_0000
+    ∷ ltb (at n 9) 0x100 ∷ ltb (at n 10) 0x100 ∷ ltb (at n 11) 0x100 ∷ ltb (at n 12) 0x100 ∷ ltb (at n 13) 0x100 ∷ ltb (at n 14) 0x100 ∷ [])
     e
     in
     record {
       first = eqb-true (at n 0) 2 (passed 0);
-      wording = passed 1;
-      urgent = passed 2;
-      update = passed 3;
-      cancel = passed 4;
-      test = passed 5;
-      event = ltb-true (at n 6) 0x1_0000_0000 (passed 6);
-      number = ltb-true (at n 7) 0x1_0000 (passed 7);
-      origin = ltb-true (at n 8) 0x1_0000_0000 (passed 8);
-      lasting = ltb-true (at n 9) 0x1_0000_0000 (passed 9);
-      hazard = ltb-true (at n 10) 0x100 (passed 10);
-      kind = ltb-true (at n 11) 0x100 (passed 11);
-      urgency = ltb-true (at n 12) 0x100 (passed 12);
-      severity = ltb-true (at n 13) 0x100 (passed 13);
-      certainty = ltb-true (at n 14) 0x100 (passed 14);
-      response = ltb-true (at n 15) 0x100 (passed 15);
+      urgent = passed 1;
+      update = passed 2;
+      cancel = passed 3;
+      test = passed 4;
+      event = ltb-true (at n 5) 0x1_0000_0000 (passed 5);
+      number = ltb-true (at n 6) 0x1_0000 (passed 6);
+      origin = ltb-true (at n 7) 0x1_0000_0000 (passed 7);
+      lasting = ltb-true (at n 8) 0x1_0000_0000 (passed 8);
+      hazard = ltb-true (at n 9) 0x100 (passed 9);
+      kind = ltb-true (at n 10) 0x100 (passed 10);
+      urgency = ltb-true (at n 11) 0x100 (passed 11);
+      severity = ltb-true (at n 12) 0x100 (passed 12);
+      certainty = ltb-true (at n 13) 0x100 (passed 13);
+      response = ltb-true (at n 14) 0x100 (passed 14);
     }

@@ -1,4 +1,4 @@
-// Sheets as 16 numbers, as C hands them in and gets them: what each of the 16 stands for is in include/warnbox.h and in specs/Numbers.antt.
+// Sheets as 15 numbers, as C hands them in and gets them: what each of the 15 stands for is in include/warnbox.h and in specs/Numbers.antt.
 mod from_numbers; // from_numbers.rt: what numbers say
 mod to_numbers; // to_numbers.rt: the numbers of a sheet
 
@@ -17,7 +17,7 @@ pub enum NumbersSheet {
 }
 
 // The sheet that numbers stand for.
-pub fn numbers_sheet(n: &[u64; 16]) -> NumbersSheet
+pub fn numbers_sheet(n: &[u64; 15]) -> NumbersSheet
     ensures { sheet_answer result ≡ numbers_sheet n.now }
 {
     if are_cap(n) {
@@ -30,7 +30,7 @@ pub fn numbers_sheet(n: &[u64; 16]) -> NumbersSheet
 }
 
 // The numbers of a sheet that was found in a text.
-pub fn numbers_of(found: Found) -> [u64; 16]
+pub fn numbers_of(found: Found) -> [u64; 15]
     ensures { result ≡ numbers_of found }
 {
     match found {

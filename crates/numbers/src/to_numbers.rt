@@ -1,19 +1,9 @@
 // The numbers of a sheet.
 ghost use Rattle.std.specs.Prelude.{◌≡◌};
-ghost use Rattle.numbers.specs.Numbers.{wording_number, stated_of, seconds_of, numbers_of_none, numbers_of_part, cap_numbers, warn_numbers};
+ghost use Rattle.numbers.specs.Numbers.{stated_of, seconds_of, numbers_of_none, numbers_of_part, cap_numbers, warn_numbers};
 
 use codes::values;
 use sheet::{CapFacts, Lasting, Part, Parts, Span, WarnFacts};
-use words::Wording;
-
-fn wording_number(wording: Wording) -> u64
-    ensures { result ≡ wording_number wording }
-{
-    match wording {
-        Wording::Plain => 1,
-        Wording::Checked => 2,
-    }
-}
 
 fn stated_of(lasting: Lasting) -> u64
     ensures { result ≡ stated_of lasting }
@@ -34,19 +24,11 @@ fn seconds_of(lasting: Lasting) -> u64
 }
 
 // The numbers of a CAP sheet without parts, its codes by their numbers.
-fn numbers_of_none(
-    wording: u64,
-    message: u64,
-    status: u64,
-    scope: u64,
-    sender: Span,
-    name: Span,
-) -> [u64; 16]
-    ensures { result ≡ numbers_of_none wording message status scope sender name }
+fn numbers_of_none(message: u64, status: u64, scope: u64, sender: Span, name: Span) -> [u64; 15]
+    ensures { result ≡ numbers_of_none message status scope sender name }
 {
     [
         1,
-        wording,
         message,
         status,
         scope,
@@ -66,15 +48,14 @@ fn numbers_of_none(
 
 // The numbers of a CAP sheet of a part.
 fn numbers_of_part(
-    wording: u64,
     message: u64,
     status: u64,
     scope: u64,
     sender: Span,
     name: Span,
     p: Part,
-) -> [u64; 16]
-    ensures { result ≡ numbers_of_part wording message status scope sender name p }
+) -> [u64; 15]
+    ensures { result ≡ numbers_of_part message status scope sender name p }
 {
     let urgency = p.urgency;
     let severity = p.severity;
@@ -82,7 +63,6 @@ fn numbers_of_part(
     let lasting = p.lasting;
     [
         1,
-        wording,
         message,
         status,
         scope,
@@ -101,32 +81,28 @@ fn numbers_of_part(
 }
 
 // The numbers of a CAP sheet, by its facts and where its sender and name stand.
-pub fn cap_numbers(f: CapFacts, sender: Span, name: Span) -> [u64; 16]
+pub fn cap_numbers(f: CapFacts, sender: Span, name: Span) -> [u64; 15]
     ensures { result ≡ cap_numbers f sender name }
 {
-    let way = f.wording;
     let message_type = f.message;
     let status_code = f.status;
     let scope_code = f.scope;
     let parts = f.parts;
-    let wording = wording_number(way);
     let message = values::message_number(message_type) as u64;
     let status = values::status_number(status_code) as u64;
     let scope = values::scope_number(scope_code) as u64;
     match parts {
-        Parts::NoPart => numbers_of_none(wording, message, status, scope, sender, name),
-        Parts::OnePart(p) => numbers_of_part(wording, message, status, scope, sender, name, p),
+        Parts::NoPart => numbers_of_none(message, status, scope, sender, name),
+        Parts::OnePart(p) => numbers_of_part(message, status, scope, sender, name, p),
     }
 }
 
 // The numbers of a WARN sheet.
-pub fn warn_numbers(w: WarnFacts) -> [u64; 16]
+pub fn warn_numbers(w: WarnFacts) -> [u64; 15]
     ensures { result ≡ warn_numbers w }
 {
-    let wording = w.wording;
     [
         2,
-        wording_number(wording),
         w.urgent as u64,
         w.update as u64,
         w.cancel as u64,

@@ -9,7 +9,6 @@ use Rattle.words.specs.Duration.{is_lasting}
 use Rattle.coordinates.specs.declared.Place.{Place}
 use Rattle.coordinates.specs.Place.{in_range}
 use Rattle.circle.specs.Circle.{around_holds}
-use Rattle.words.specs.declared.Wording.TheVariants.{Plain}
 use Rattle.sheet.specs.declared.WarnFacts.{WarnFacts}
 use Rattle.sheet.specs.declared.Span.{Span}
 use Rattle.packet.specs.declared.Fields.{Fields}
@@ -121,12 +120,10 @@ abbrev pub packet_answer : Packet → Answer Fields
 packet_answer (packet.Alert f) = gives f
 packet_answer (packet.Refused e) = refuses (fault_number e) 0
 
--- ---- the sheet: "number being the packet's sequence, origin its key id, hazard and kind its hazard major and minor"; [13] "A sheet is drawn in 01's
--- wording"
+-- ---- the sheet: "number being the packet's sequence, origin its key id, hazard and kind its hazard major and minor"
 
 unfoldable pub sheet_of_fields : Fields → WarnFacts
 sheet_of_fields f = record {
-  wording = Plain;
   urgent = f.urgent;
   update = f.update;
   cancel = f.cancel;

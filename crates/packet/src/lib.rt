@@ -5,7 +5,6 @@ ghost use Rattle.packet.specs.Packet.{tlv_of, signature_of, tlv_span, signature_
 
 use coordinates::Place;
 use sheet::{Span, WarnFacts, span_in};
-use words::Wording;
 
 mod bytes;
 mod checks;
@@ -146,13 +145,12 @@ pub fn read_packet(p: &[u8]) -> Packet
     checks::read_alert(p)
 }
 
-// The sheet of an ALERT's fields, in document 01's wording.
+// The sheet of an ALERT's fields.
 fn sheet_of(f: Fields) -> WarnFacts
     requires { is_lasting (lasting_of f) ≡ true }
     ensures { result ≡ sheet_of_fields f }
 {
     WarnFacts {
-        wording: Wording::Plain,
         urgent: f.urgent,
         update: f.update,
         cancel: f.cancel,

@@ -2,7 +2,6 @@
 use Rattle.std.specs.Prelude.{Bool, false, cond, List, ℕ, eqb, ℤ, pos, negsuc, nat_abs, ◌-ℤ◌}
 use Rattle.text.specs.Answers.{Answer, gives, refuses, answer_and_then, giving}
 use Rattle.words.specs.Duration.{is_lasting}
-use Rattle.words.specs.declared.Wording.TheVariants.{Plain}
 use Rattle.time.specs.Time.{time_of}
 use Rattle.sheet.specs.declared.Lasting.{Lasting}
 use Rattle.sheet.specs.declared.Lasting.TheVariants as lasting
@@ -53,7 +52,7 @@ lasts_of l alert part =
     (time_of (span_in l (part class.expires)))
 
 -- ---- "for CAP message type, status, scope, sender, identifier, part and total, urgency, severity, certainty (codes in
--- small letters) and the lasting time or its absence"; [13] "A sheet is drawn in 01's wording"
+-- small letters) and the lasting time or its absence"
 
 abbrev pub part_facts : List ℕ → (number total : ℕ) → (part : ℕ → Span) → Lasting → Part
 part_facts l number total part d = record {
@@ -67,7 +66,6 @@ part_facts l number total part d = record {
 
 abbrev pub facts_of : List ℕ → (alert : ℕ → Span) → Parts → CapFacts
 facts_of l alert ps = record {
-  wording = Plain;
   message = message_of (span_in l (alert class.msg_type));
   status = status_of (span_in l (alert class.status));
   scope = scope_of (span_in l (alert class.scope));

@@ -13,7 +13,6 @@ use codes::{list, values};
 use schema::class;
 use sheet::{CapFacts, Lasting, Part, Parts, Span, span_in};
 use time::Time;
-use words::Wording;
 
 // The time that the text at a span says.
 fn time_in(s: &[u8], span: Span) -> Time
@@ -62,7 +61,7 @@ fn part_of(s: &[u8], part: usize, total: usize, f: Facts, lasting: Lasting) -> P
     }
 }
 
-// The sheet with the facts of a part, or of none, in document 01's wording.
+// The sheet with the facts of a part, or of none.
 fn sheet_with(s: &[u8], f: Facts, parts: Parts) -> CapSheet
     ensures { sheet_answer result ≡ gives (sheet_with s.now (alert_span f) parts) }
 {
@@ -82,7 +81,6 @@ fn sheet_with(s: &[u8], f: Facts, parts: Parts) -> CapSheet
         f.alert[class::SCOPE - class::IDENTIFIER],
     ));
     let facts = CapFacts {
-        wording: Wording::Plain,
         message: message,
         status: status,
         scope: scope,

@@ -2,37 +2,34 @@
 ghost use Rattle.std.specs.Prelude.{◌++◌};
 ghost use Rattle.text.specs.Ascii.{ascii};
 ghost use Rattle.buffer.specs.Cursor.{Put};
-ghost use Rattle.words.specs.Duration.{lasting};
-ghost use Rattle.sheet.specs.Sheet.{cap};
-ghost use Rattle.sheet.specs.Sentence.{lasting_text, part_text, parts_text, sentence};
+ghost use Rattle.sheet.specs.Sentence.{plain, lasting_text, part_text, parts_text, cap_text};
 
-use crate::fields::{byte_field, code_field, duration_field, put_opening, text_field};
+use crate::fields::{byte_field, code_field, duration_field, text_field};
 use buffer::put;
 use codes::list::{CERTAINTY, MSG_TYPE, SCOPE, SEVERITY, STATUS, URGENCY};
 use codes::values::{
     certainty_number, message_number, scope_number, severity_number, status_number, urgency_number,
 };
 use sheet::{CapFacts, Lasting, Part, Parts};
-use words::Wording;
 
 // How long a part lasts.
-fn put_lasting(dst: &mut [u8], at: usize, wording: Wording, time: Lasting) -> usize
-    ensures { Put dst.old at (ascii ", lasts" ++ lasting_text (lasting wording) time) dst.new result }
+fn put_lasting(dst: &mut [u8], at: usize, lasting: Lasting) -> usize
+    ensures { Put dst.old at (ascii ", lasts" ++ lasting_text plain lasting) dst.new result }
 {
-    match time {
+    match lasting {
         Lasting::Unstated => put(dst, at, b", lasts no stated time"),
-        Lasting::Seconds(s) => duration_field(dst, at, b", lasts", wording, s),
+        Lasting::Seconds(s) => duration_field(dst, at, b", lasts", s),
     }
 }
 
 // A part by its number, its codes and how long it lasts.
-fn put_part(dst: &mut [u8], at: usize, wording: Wording, p: Part) -> usize
-    ensures { Put dst.old at (part_text (lasting wording) p) dst.new result }
+fn put_part(dst: &mut [u8], at: usize, p: Part) -> usize
+    ensures { Put dst.old at (part_text plain p) dst.new result }
 {
     let urgency = p.urgency;
     let severity = p.severity;
     let certainty = p.certainty;
-    let time = p.lasting;
+    let lasting = p.lasting;
     let u = urgency_number(urgency);
     let s = severity_number(severity);
     let y = certainty_number(certainty);
@@ -41,23 +38,22 @@ fn put_part(dst: &mut [u8], at: usize, wording: Wording, p: Part) -> usize
     let c = code_field(dst, b, b", ", URGENCY, u);
     let d = code_field(dst, c, b", ", SEVERITY, s);
     let e = code_field(dst, d, b", ", CERTAINTY, y);
-    put_lasting(dst, e, wording, time)
+    put_lasting(dst, e, lasting)
 }
 
-fn put_parts(dst: &mut [u8], at: usize, wording: Wording, parts: Parts) -> usize
-    ensures { Put dst.old at (parts_text (lasting wording) parts) dst.new result }
+fn put_parts(dst: &mut [u8], at: usize, parts: Parts) -> usize
+    ensures { Put dst.old at (parts_text plain parts) dst.new result }
 {
     match parts {
         Parts::NoPart => put(dst, at, b", no parts"),
-        Parts::OnePart(p) => put_part(dst, at, wording, p),
+        Parts::OnePart(p) => put_part(dst, at, p),
     }
 }
 
 // Writes as much of the whole sentence as fits into dst from the offset at on, and gives the next start.
 pub fn put_cap(dst: &mut [u8], at: usize, facts: CapFacts, sender: &[u8], name: &[u8]) -> usize
-    ensures { Put dst.old at (sentence (cap facts sender.now name.now)) dst.new result }
+    ensures { Put dst.old at (cap_text plain facts sender.now name.now) dst.new result }
 {
-    let wording = facts.wording;
     let message = facts.message;
     let status = facts.status;
     let scope = facts.scope;
@@ -65,12 +61,11 @@ pub fn put_cap(dst: &mut [u8], at: usize, facts: CapFacts, sender: &[u8], name: 
     let m = message_number(message);
     let s = status_number(status);
     let p = scope_number(scope);
-    let o = put_opening(dst, at, wording);
-    let a = code_field(dst, o, b"cap ", MSG_TYPE, m);
+    let a = code_field(dst, at, b"cap ", MSG_TYPE, m);
     let b = code_field(dst, a, b", ", STATUS, s);
     let c = code_field(dst, b, b", ", SCOPE, p);
     let d = text_field(dst, c, b", from ", sender);
     let e = text_field(dst, d, b", name ", name);
-    let f = put_parts(dst, e, wording, parts);
+    let f = put_parts(dst, e, parts);
     put(dst, f, b".\n")
 }

@@ -1,26 +1,14 @@
-// What opens a sentence, and its fields, each after the text in front of it. A field's writer is lent the part of the buffer that starts where the field starts.
+// The fields of a sentence, each after the text in front of it. A field's writer is lent the part of the buffer that starts where the field starts.
 ghost use Rattle.std.specs.Prelude.{[], ◌∷◌};
-ghost use Rattle.buffer.specs.Cursor.{Put, PutAll};
+ghost use Rattle.buffer.specs.Cursor.{PutAll};
 ghost use Rattle.words.specs.Words.{said};
 ghost use Rattle.words.specs.Duration.{lasting};
 ghost use Rattle.codes.specs.Lists.{small_text};
-ghost use Rattle.sheet.specs.Sentence.{opening};
 
 use buffer::put;
 use codes::texts::put_code;
 use spoken::duration::put_duration;
 use spoken::number::put_number;
-use words::Wording;
-
-// What opens a sentence in a wording.
-pub fn put_opening(dst: &mut [u8], at: usize, wording: Wording) -> usize
-    ensures { Put dst.old at (opening wording) dst.new result }
-{
-    match wording {
-        Wording::Plain => at,
-        Wording::Checked => put(dst, at, b"checked "),
-    }
-}
 
 // A text as it stands: a sender or a name.
 pub fn text_field(dst: &mut [u8], at: usize, before: &[u8], t: &[u8]) -> usize
@@ -51,21 +39,15 @@ pub fn byte_field(dst: &mut [u8], at: usize, before: &[u8], n: u8) -> usize
     number_field(dst, at, before, n as u32)
 }
 
-// A number of seconds in words, in a wording.
-pub fn duration_field(
-    dst: &mut [u8],
-    at: usize,
-    before: &[u8],
-    wording: Wording,
-    seconds: u32,
-) -> usize
-    ensures { PutAll dst.old at (before.now ∷ lasting wording seconds ∷ []) dst.new result }
+// A number of seconds in words.
+pub fn duration_field(dst: &mut [u8], at: usize, before: &[u8], seconds: u32) -> usize
+    ensures { PutAll dst.old at (before.now ∷ lasting seconds ∷ []) dst.new result }
 {
     let a = put(dst, at, before);
     if dst.len() < a {
         return a;
     }
-    a + put_duration(&mut dst[a..], 0, wording, seconds)
+    a + put_duration(&mut dst[a..], 0, seconds)
 }
 
 // A CAP code in small letters, by its list and its number.

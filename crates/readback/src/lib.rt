@@ -1,5 +1,5 @@
 // Read-backs: the sentences of fact sheets, written into a lent buffer.
-mod fields; // fields.rt: what opens a sentence, and its fields
+mod fields; // fields.rt: the fields of a sentence
 pub mod cap; // cap.rt: the sentence of a CAP sheet
 pub mod warn; // warn.rt: the sentence of a WARN sheet
 mod room; // room.rt: whether a sentence has room
@@ -15,7 +15,7 @@ use sheet::ranges::{is_cap, is_warn};
 use sheet::{CapFacts, WarnFacts, WriteSheet};
 
 // The length of the longest sentence (sheet/specs/Sentence.antt: `longest`).
-pub const LONGEST: usize = 723;
+pub const LONGEST: usize = 651;
 
 // Writes the sentence of a CAP sheet from start on. A sheet with a fact out of range, and one without room there, changes nothing.
 pub fn write_cap(

@@ -1,15 +1,14 @@
-// Writes a mixed list of sheets in both wordings one after the other into one buffer, refused ones among them, and reads the text back.
+// Writes a mixed list of sheets one after the other into one buffer, refused ones among them, and reads the text back.
 // tests/readback.py writes the stored output from the independent model.
 use codes::{Certainty, MessageType, Scope, Severity, Status, Urgency};
 use libc::STDOUT_FILENO;
 use sheet::{CapFacts, Found, Lasting, Part, Parts, ReadBack, Span, WarnFacts, WriteSheet};
-use words::Wording;
 
 // Room for any sentence.
 const SENTENCE_ROOM: usize = 1024;
 
 // The buffer's length: of the last three sheets only the second fits, and just so.
-const ROOM: usize = 2073;
+const ROOM: usize = 1020;
 
 fn print(text: &[u8]) {
     io::write_all(STDOUT_FILENO, text);
@@ -39,9 +38,8 @@ fn next_start(start: usize, answer: WriteSheet) -> usize {
     }
 }
 
-fn alert(wording: Wording, parts: Parts) -> CapFacts {
+fn alert(parts: Parts) -> CapFacts {
     CapFacts {
-        wording,
         message: MessageType::Alert,
         status: Status::Actual,
         scope: Scope::Public,
@@ -60,9 +58,8 @@ fn part(number: u8, total: u8, lasting: Lasting) -> Parts {
     })
 }
 
-fn warning(wording: Wording, event: u32, lasting: u32) -> WarnFacts {
+fn warning(event: u32, lasting: u32) -> WarnFacts {
     WarnFacts {
-        wording,
         urgent: true,
         update: false,
         cancel: true,
@@ -81,14 +78,13 @@ fn warning(wording: Wording, event: u32, lasting: u32) -> WarnFacts {
 }
 
 // Document 01's three samples.
-fn write_samples(buffer: &mut [u8], start: usize, wording: Wording) -> usize {
-    let first = alert(wording, part(1, 1, Lasting::Seconds(900)));
+fn write_samples(buffer: &mut [u8], start: usize) -> usize {
+    let first = alert(part(1, 1, Lasting::Seconds(900)));
     let a = next_start(
         start,
         readback::write_cap(buffer, start, first, b"kiln.example", b"A17"),
     );
     let second = CapFacts {
-        wording,
         message: MessageType::Cancel,
         status: Status::Actual,
         scope: Scope::Public,
@@ -98,10 +94,7 @@ fn write_samples(buffer: &mut [u8], start: usize, wording: Wording) -> usize {
         a,
         readback::write_cap(buffer, a, second, b"kiln.example", b"A18"),
     );
-    next_start(
-        b,
-        readback::write_warn(buffer, b, warning(wording, 7, 3900)),
-    )
+    next_start(b, readback::write_warn(buffer, b, warning(7, 3900)))
 }
 
 // CAP sheets with a part out of range.
@@ -111,20 +104,14 @@ fn write_bad_parts(buffer: &mut [u8], start: usize) -> usize {
         readback::write_cap(
             buffer,
             start,
-            alert(Wording::Plain, part(0, 1, Lasting::Unstated)),
+            alert(part(0, 1, Lasting::Unstated)),
             b"a",
             b"A",
         ),
     );
     next_start(
         a,
-        readback::write_cap(
-            buffer,
-            a,
-            alert(Wording::Plain, part(2, 1, Lasting::Unstated)),
-            b"a",
-            b"A",
-        ),
+        readback::write_cap(buffer, a, alert(part(2, 1, Lasting::Unstated)), b"a", b"A"),
     )
 }
 
@@ -135,7 +122,7 @@ fn write_too_many(buffer: &mut [u8], start: usize) -> usize {
         readback::write_cap(
             buffer,
             start,
-            alert(Wording::Plain, part(1, 17, Lasting::Unstated)),
+            alert(part(1, 17, Lasting::Unstated)),
             b"a",
             b"A",
         ),
@@ -145,7 +132,7 @@ fn write_too_many(buffer: &mut [u8], start: usize) -> usize {
         readback::write_cap(
             buffer,
             a,
-            alert(Wording::Plain, part(1, 1, Lasting::Seconds(31536001))),
+            alert(part(1, 1, Lasting::Seconds(31536001))),
             b"a",
             b"A",
         ),
@@ -159,52 +146,39 @@ fn write_bad_names(buffer: &mut [u8], start: usize) -> usize {
         readback::write_cap(
             buffer,
             start,
-            alert(Wording::Plain, part(1, 1, Lasting::Seconds(900))),
+            alert(part(1, 1, Lasting::Seconds(900))),
             b"a,b",
             b"A",
         ),
     );
     let b = next_start(
         a,
-        readback::write_cap(buffer, a, alert(Wording::Plain, Parts::NoPart), b"", b"A"),
+        readback::write_cap(buffer, a, alert(Parts::NoPart), b"", b"A"),
     );
     next_start(
         b,
-        readback::write_cap(
-            buffer,
-            b,
-            alert(Wording::Plain, Parts::NoPart),
-            b"a]]>",
-            b"A",
-        ),
+        readback::write_cap(buffer, b, alert(Parts::NoPart), b"a]]>", b"A"),
     )
 }
 
 // WARN sheets that last too short and too long a time.
 fn write_bad_warnings(buffer: &mut [u8], start: usize) -> usize {
-    let a = next_start(
-        start,
-        readback::write_warn(buffer, start, warning(Wording::Plain, 0, 0)),
-    );
-    next_start(
-        a,
-        readback::write_warn(buffer, a, warning(Wording::Plain, 1, 31536001)),
-    )
+    let a = next_start(start, readback::write_warn(buffer, start, warning(0, 0)));
+    next_start(a, readback::write_warn(buffer, a, warning(1, 31536001)))
 }
 
 // WARN sheets that last the longest and the shortest time.
-fn write_warnings(buffer: &mut [u8], start: usize, wording: Wording) -> usize {
+fn write_warnings(buffer: &mut [u8], start: usize) -> usize {
     let a = next_start(
         start,
-        readback::write_warn(buffer, start, warning(wording, 4294967295, 31536000)),
+        readback::write_warn(buffer, start, warning(4294967295, 31536000)),
     );
-    next_start(a, readback::write_warn(buffer, a, warning(wording, 1, 1)))
+    next_start(a, readback::write_warn(buffer, a, warning(1, 1)))
 }
 
 // A CAP sheet at the end of its range.
-fn write_last_part(buffer: &mut [u8], start: usize, wording: Wording) -> usize {
+fn write_last_part(buffer: &mut [u8], start: usize) -> usize {
     let facts = CapFacts {
-        wording,
         message: MessageType::Error,
         status: Status::Draft,
         scope: Scope::Restricted,
@@ -284,7 +258,7 @@ fn print_read(text: &[u8], k: usize) {
 
 fn print_reads(text: &[u8]) {
     let mut k = 0;
-    while k < 18 {
+    while k < 12 {
         print_read(text, k);
         k += 1;
     }
@@ -292,7 +266,7 @@ fn print_reads(text: &[u8]) {
 
 // Writes the whole list, and gives the end of its text.
 fn write_list(buffer: &mut [u8]) -> usize {
-    let a = write_samples(buffer, 0, Wording::Plain);
+    let a = write_samples(buffer, 0);
     let b = write_bad(buffer, a);
     write_good(buffer, b)
 }
@@ -305,21 +279,13 @@ fn write_bad(buffer: &mut [u8], start: usize) -> usize {
 
 fn write_good(buffer: &mut [u8], start: usize) -> usize {
     let a = write_bad_warnings(buffer, start);
-    let b = write_warnings(buffer, a, Wording::Plain);
+    let b = write_warnings(buffer, a);
     write_ends(buffer, b)
 }
 
 fn write_ends(buffer: &mut [u8], start: usize) -> usize {
-    let a = write_last_part(buffer, start, Wording::Plain);
-    let b = write_checked(buffer, a);
-    write_samples(buffer, b, Wording::Plain)
-}
-
-// The sheets that are in range once more, in the other wording.
-fn write_checked(buffer: &mut [u8], start: usize) -> usize {
-    let a = write_samples(buffer, start, Wording::Checked);
-    let b = write_warnings(buffer, a, Wording::Checked);
-    write_last_part(buffer, b, Wording::Checked)
+    let a = write_last_part(buffer, start);
+    write_samples(buffer, a)
 }
 
 fn main() {
@@ -331,8 +297,6 @@ fn main() {
         print_reads(&buffer[..end]);
     }
     print_damaged();
-    print_mixed();
-    print_misheard();
 }
 
 // A text whose second line is damaged, asked for its first sentence and for their number.
@@ -341,52 +305,4 @@ fn print_damaged() {
         b"cap ack, test, private, from a, name b, no parts.\ncap ack, Test, private, from a, name b, no parts.\n";
     print_read(text, 1);
     print_read(text, 0);
-}
-
-// A checked read-back, and lines that mix the two wordings.
-fn print_mixed() {
-    print_read(
-        b"checked cap ack, test, private, from a, name b, part one of one, past, minor, likely, lasts fifteen as one five minutes.\n",
-        1,
-    );
-    print_read(
-        b"cap ack, test, private, from a, name b, part one of one, past, minor, likely, lasts fifteen as one five minutes.\n",
-        1,
-    );
-    print_read(
-        b"checked cap ack, test, private, from a, name b, part one of one, past, minor, likely, lasts fifteen minutes.\n",
-        1,
-    );
-    print_read(
-        b"checked cap ack, test, private, from a, name b, part one of one, past, minor, likely, lasts fifteen minutes as one five.\n",
-        1,
-    );
-}
-
-// Checked read-backs whose duration is wrong: digits in reverse, with a zero in front, of the whole seconds, without "as"; one digit, and one word, replaced.
-fn print_misheard() {
-    print_read(
-        b"checked cap ack, test, private, from a, name b, part one of one, past, minor, likely, lasts fifteen as five one minutes.\n",
-        1,
-    );
-    print_read(
-        b"checked cap ack, test, private, from a, name b, part one of one, past, minor, likely, lasts fifteen as zero one five minutes.\n",
-        1,
-    );
-    print_read(
-        b"checked cap ack, test, private, from a, name b, part one of one, past, minor, likely, lasts fifteen as nine zero zero minutes.\n",
-        1,
-    );
-    print_read(
-        b"checked cap ack, test, private, from a, name b, part one of one, past, minor, likely, lasts fifteen one five minutes.\n",
-        1,
-    );
-    print_read(
-        b"checked cap ack, test, private, from a, name b, part one of one, past, minor, likely, lasts fifteen as one four minutes.\n",
-        1,
-    );
-    print_read(
-        b"checked cap ack, test, private, from a, name b, part one of one, past, minor, likely, lasts sixteen as one five minutes.\n",
-        1,
-    );
 }

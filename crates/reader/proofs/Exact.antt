@@ -9,7 +9,6 @@ use lib.ListN.{length, take, drop}
 use Rattle.text.specs.Ascii.{ascii}
 use Rattle.text.specs.Answers.{Answer, gives, refuses}
 use Rattle.text.specs.Logic.{by_test, clash}
-use Rattle.words.specs.declared.Wording.{Wording}
 use Rattle.sheet.specs.declared.CapFacts.{CapFacts}
 use Rattle.sheet.specs.declared.WarnFacts.{WarnFacts}
 use Rattle.sheet.specs.declared.Span.{Span}
@@ -19,23 +18,23 @@ use Rattle.sheet.specs.declared.Line.TheVariants as line
 use Rattle.text.specs.Parts.{starts_with}
 use Rattle.sheet.specs.Sheet.{Sheet, cap, warn, in_range}
 use Rattle.sheet.specs.Sentence.{sentence, longest}
-use Rattle.sheet.specs.Reading.{wording_at, from_kind, warn_of, found_at, span_in, sheet_in, sheet_of, is_line, line_at}
+use Rattle.sheet.specs.Reading.{warn_of, found_at, span_in, sheet_in, sheet_of, is_line, line_at}
 use Rattle.sheet.specs.Answers.{writing, after}
 use Rattle.sheet.proofs.Lengths.{sentence_le}
 use Rattle.sheet.proofs.ReadSentence.{found_at_lem}
 use Rattle.sheet.proofs.WriteOne.{length_written, part_written, write_end, given}
 use Rattle.reader.specs.Pieces.{cap_at}
 
--- ---- the kind of a sheet; k: what stands after the opening
+-- ---- the kind of a sheet
 
-module _ (i : ℕ) (l : List ℕ) {k : List ℕ} (o : k ≡ from_kind l) {r : Bool} (e : r ≡ starts_with (ascii "warn") k) where
-  pub found_warn : r ≡ true → {x : WarnFacts} {w : Wording} → w ≡ wording_at l → x ≡ warn_of w k → found.Warn x ≡ found_at i l
+module _ (i : ℕ) (l : List ℕ) {r : Bool} (e : r ≡ starts_with (ascii "warn") l) where
+  pub found_warn : r ≡ true → {w : WarnFacts} → w ≡ warn_of l → found.Warn w ≡ found_at i l
   unfolding found_at
-  found_warn b v q = rw (← o, ← v, sym e ∙ b) (ap found.Warn q)
+  found_warn b q = rw (sym e ∙ b) (ap found.Warn q)
 
   pub found_cap : r ≡ false → {f : Found} → f ≡ cap_at i l → f ≡ found_at i l
   unfolding found_at
-  found_cap b q = rw (sym (ap (starts_with (ascii "warn")) o) ∙ sym e ∙ b) q
+  found_cap b q = rw (sym e ∙ b) q
 
 -- ---- the answer to a write over the front of a buffer
 

@@ -6,7 +6,6 @@ use Prim.Native.Nat.{ℕ, ◌-◌}
 use lib.ListN.{length, drop}
 use Rattle.text.specs.Ascii.{ascii}
 use Rattle.text.specs.Parts.{starts_with}
-use Rattle.words.specs.declared.Wording.{Wording}
 use Rattle.sheet.specs.declared.WarnFacts.{WarnFacts}
 use Rattle.sheet.specs.Reading.{from_urgent, from_update, from_cancel, from_test, after_flags, from_hazard, warn_of}
 use Rattle.sheet.proofs.ReadSentence.{rest_offset, hazard_rest}
@@ -19,13 +18,12 @@ pub last_is : (l : List ℕ) {o : Origin} → o ≡ origin_of l → drop (length
 unfolding origin_of
 last_is l q = ap (λ (x : Origin). drop (length l - x.left) l) q ∙ rest_offset (from_hazard l) l (hazard_rest l)
 
-module _ (w : Wording) (l : List ℕ) {e : List ℕ} {o : Origin} {h : Hazard} (p : e ≡ after_flags l) (q : o ≡ origin_of e) (r : h ≡ hazard_of (from_hazard e)) where
+module _ (l : List ℕ) {e : List ℕ} {o : Origin} {h : Hazard} (p : e ≡ after_flags l) (q : o ≡ origin_of e) (r : h ≡ hazard_of (from_hazard e)) where
   pub warn_is :
       {u d c t : Bool} → u ≡ starts_with (ascii " urgent") (from_urgent l) → d ≡ starts_with (ascii " update") (from_update l)
       → c ≡ starts_with (ascii " cancel") (from_cancel l) → t ≡ starts_with (ascii " test") (from_test l)
       → ◌≡◌ {A = WarnFacts}
       (record {
-        wording = w;
         urgent = u;
         update = d;
         cancel = c;
@@ -41,6 +39,6 @@ module _ (w : Wording) (l : List ℕ) {e : List ℕ} {o : Origin} {h : Hazard} (
         certainty = h.certainty;
         response = h.response;
       })
-      (warn_of w l)
+      (warn_of l)
   unfolding warn_of origin_of hazard_of
   warn_is a b f g = rw (a, b, f, g, q, r, p)

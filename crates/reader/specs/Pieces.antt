@@ -4,7 +4,7 @@ use Rattle.codes.specs.Lists.{small_code_of}
 use Rattle.words.specs.Reading.{duration_at}
 use Rattle.sheet.specs.declared.Found.{Found}
 use Rattle.sheet.specs.declared.Found.TheVariants as found
-use Rattle.sheet.specs.Reading.{word_of, wording_at, from_kind, origin_number, from_period, from_hazard, hazard_byte, from_sender, from_name, cap_of, span_at}
+use Rattle.sheet.specs.Reading.{word_of, origin_number, from_period, from_hazard, hazard_byte, from_sender, from_name, cap_of, span_at}
 use Rattle.reader.specs.declared.warn.Origin.{Origin}
 use Rattle.reader.specs.declared.warn.Hazard.{Hazard}
 
@@ -14,8 +14,7 @@ word_code list l = small_code_of list (word_of l)
 
 -- a CAP sentence that stands at the offset i
 abbrev pub cap_at : ℕ → List ℕ → Found
-cap_at i l =
-    found.Cap (cap_of (wording_at l) (from_kind l)) (span_at i l (from_sender (from_kind l))) (span_at i l (from_name (from_kind l)))
+cap_at i l = found.Cap (cap_of l) (span_at i l (from_sender l)) (span_at i l (from_name l))
 
 -- a WARN sentence from ", event" to the lasting time, and from ", hazard" on
 unfoldable pub origin_of : List ℕ → Origin

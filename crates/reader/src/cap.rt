@@ -3,7 +3,6 @@ ghost use Rattle.std.specs.Prelude.{◌≡◌, ◌+◌, ◌≤◌, ◌<◌, leng
 ghost use Rattle.sheet.specs.Reading.{lasting_of, part_of, parts_of, span_at};
 ghost use Rattle.reader.specs.Pieces.{cap_at};
 
-use crate::opening::{from_kind, wording_at};
 use crate::scan::{after, after_word, code_in, low_byte, word_length};
 use codes::{list, values};
 use sheet::{CapFacts, Found, Lasting, Part, Parts, Span};
@@ -77,18 +76,17 @@ fn span_at(at: usize, t: &[u8], rest: &[u8]) -> Span
     }
 }
 
-// A CAP sentence at an offset of a text: its facts, and where its sender and its name stand.
+// A CAP sentence from its start: its facts, and where its sender and its name stand.
 pub fn cap_at(t: &[u8], at: usize) -> Found
     ensures { result ≡ cap_at at (drop at t.now) }
 {
     let start = text::skip(t, at);
-    let message = text::skip(from_kind(start), CAP);
+    let message = text::skip(start, CAP);
     let status = after_word(message, NEXT);
     let scope = after_word(status, NEXT);
     let sender = after_word(scope, FROM);
     let name = after_word(sender, NAME);
     let facts = CapFacts {
-        wording: wording_at(start),
         message: values::message_at(code_in(list::MSG_TYPE, message)),
         status: values::status_at(code_in(list::STATUS, status)),
         scope: values::scope_at(code_in(list::SCOPE, scope)),

@@ -1,6 +1,5 @@
 // Reads texts of read-backs: how many there are, and the sheet of the one asked for.
 mod scan; // scan.rt: what leads a text
-mod opening; // opening.rt: the opening of a sentence
 mod cap; // cap.rt: CAP sentences, read loosely
 mod warn; // warn.rt: WARN sentences, read loosely
 mod line; // line.rt: what stands at an offset of a text

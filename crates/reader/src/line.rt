@@ -5,7 +5,6 @@ ghost use Rattle.sheet.specs.Reading.{found_at, sheet_in, line_at};
 ghost use Rattle.sheet.specs.Answers.{writing, write_answer, after};
 
 use crate::cap::cap_at;
-use crate::opening::{from_kind, wording_at};
 use crate::warn::warn_of;
 use readback::{LONGEST, write_cap, write_warn};
 use sheet::{Found, Line, WriteSheet, span_in};
@@ -15,9 +14,8 @@ pub fn found_at(t: &[u8], at: usize) -> Found
     ensures { result ≡ found_at at (drop at t.now) }
 {
     let start = text::skip(t, at);
-    let kind = from_kind(start);
-    if text::starts_with(kind, b"warn") {
-        return Found::Warn(warn_of(wording_at(start), kind));
+    if text::starts_with(start, b"warn") {
+        return Found::Warn(warn_of(start));
     }
     cap_at(t, at)
 }

@@ -6,7 +6,6 @@ ghost use Rattle.reader.specs.Pieces.{origin_of, hazard_of};
 use crate::scan::{after, low_byte};
 use sheet::WarnFacts;
 use spoken::{read_duration, read_number};
-use words::Wording;
 
 // The lengths of the literals.
 const WARN_ALERT: usize = 10; // "warn alert"
@@ -120,9 +119,9 @@ fn last<'a>(t: &'a [u8], left: usize) -> &'a [u8]
     text::skip(t, t.len() - left)
 }
 
-// A WARN sentence in a wording, from after its opening.
-pub fn warn_of(wording: Wording, t: &[u8]) -> WarnFacts
-    ensures { result ≡ warn_of wording t.now }
+// A WARN sentence from its start.
+pub fn warn_of(t: &[u8]) -> WarnFacts
+    ensures { result ≡ warn_of t.now }
 {
     let urgent = text::skip(t, WARN_ALERT);
     let update = after_flag(urgent, b" urgent");
@@ -132,7 +131,6 @@ pub fn warn_of(wording: Wording, t: &[u8]) -> WarnFacts
     let o = origin_of(event);
     let h = hazard_of(last(event, o.left));
     WarnFacts {
-        wording: wording,
         urgent: text::starts_with(urgent, b" urgent"),
         update: text::starts_with(update, b" update"),
         cancel: text::starts_with(cancel, b" cancel"),

@@ -3,13 +3,12 @@ ghost use Rattle.std.specs.Prelude.{◌≡◌};
 ghost use Rattle.report.specs.Lines.{reported, reported_in, report_answer};
 
 use document::Check;
-use words::Wording;
 
 mod digits; // digits.rt: numbers in digits, and the line of a refusal
 mod lines; // lines.rt: the lines of parts
 
-// Room for any report: a line for each of sixteen parts.
-pub const ROOM: usize = 16 * readback::LONGEST;
+// Room for any report.
+pub const ROOM: usize = 12_000;
 
 // Where a report ends, or that the buffer has less than ROOM bytes.
 #[derive(Drop)]
@@ -18,9 +17,9 @@ pub enum Report {
     NoRoom,
 }
 
-// Writes all that the program says about a document, in a wording, over the front of a buffer.
-pub fn write_report(buffer: &mut [u8], s: &[u8], wording: Wording) -> Report
-    ensures { (report_answer result ≡ reported wording buffer.old s.now) × (buffer.new ≡ reported_in wording buffer.old s.now) }
+// Writes all that the program says about a document over the front of a buffer.
+pub fn write_report(buffer: &mut [u8], s: &[u8]) -> Report
+    ensures { (report_answer result ≡ reported buffer.old s.now) × (buffer.new ≡ reported_in buffer.old s.now) }
 {
     if buffer.len() < ROOM {
         return Report::NoRoom;
@@ -32,9 +31,9 @@ pub fn write_report(buffer: &mut [u8], s: &[u8], wording: Wording) -> Report
         }
         Check::Accepted(parts) => {
             if parts == 0 {
-                return Report::End(lines::put_lines(buffer, s, wording, 0, 1));
+                return Report::End(lines::put_lines(buffer, s, 0, 1));
             }
-            Report::End(lines::put_lines(buffer, s, wording, 1, parts))
+            Report::End(lines::put_lines(buffer, s, 1, parts))
         }
     }
 }

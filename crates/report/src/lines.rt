@@ -8,8 +8,7 @@ ghost use Rattle.report.specs.PartLine.{line_at, is_sentence};
 use crate::digits::put_refusal;
 use parts::CapSheet;
 use readback::cap::put_cap;
-use sheet::{cap_worded, span_in};
-use words::Wording;
+use sheet::span_in;
 
 // A line that was written: the next start, and whether it is a sentence, after which more lines come.
 #[derive(Drop)]
@@ -19,19 +18,13 @@ pub struct Line {
 }
 
 // Writes the line of a part.
-fn put_line(dst: &mut [u8], at: usize, s: &[u8], wording: Wording, part: usize) -> Line
-    ensures { Put dst.old at (line_at wording s.now part) dst.new result.end × (result.more ≡ is_sentence (cap_sheet part s.now)) }
+fn put_line(dst: &mut [u8], at: usize, s: &[u8], part: usize) -> Line
+    ensures { Put dst.old at (line_at s.now part) dst.new result.end × (result.more ≡ is_sentence (cap_sheet part s.now)) }
 {
     let drawn = parts::cap_sheet(s, part);
     match drawn {
         CapSheet::Sheet(facts, sender, name) => Line {
-            end: put_cap(
-                dst,
-                at,
-                cap_worded(facts, wording),
-                span_in(s, sender),
-                span_in(s, name),
-            ),
+            end: put_cap(dst, at, facts, span_in(s, sender), span_in(s, name)),
             more: true,
         },
         CapSheet::NotThere => Line {
@@ -50,15 +43,15 @@ fn put_line(dst: &mut [u8], at: usize, s: &[u8], wording: Wording, part: usize) 
 }
 
 // Writes the lines of some parts over the front of dst, from the first part's to the first refusal, and gives the next start.
-pub fn put_lines(dst: &mut [u8], s: &[u8], wording: Wording, first: usize, many: usize) -> usize
+pub fn put_lines(dst: &mut [u8], s: &[u8], first: usize, many: usize) -> usize
     requires { (first ≤ 1) × (many ≤ 16) }
-    ensures { Put dst.old 0 (lines_from wording s.now many first) dst.new result }
+    ensures { Put dst.old 0 (lines_from s.now many first) dst.new result }
 {
     let mut at = 0;
     let mut part = first;
     let mut left = many;
     while 0 < left {
-        let line = put_line(dst, at, s, wording, part);
+        let line = put_line(dst, at, s, part);
         at = line.end;
         if !line.more {
             return at;

@@ -15,18 +15,17 @@ use Rattle.schema.specs.Sequences.{container_of, next_of}
 use Rattle.time.specs.Calendar.{days_of_years, days_of_months}
 use Rattle.time.specs.Time.{has_form, stamp_of, is_stamp, local_seconds, epoch, offset, instant_of, stamp_time, time_of}
 use Rattle.words.specs.Words.{dictionary, word, spaced, ones, below_hundred, below_thousand, group, number_codes, said}
-use Rattle.words.specs.Duration.{repeated, counted, duration_codes, lasting}
+use Rattle.words.specs.Duration.{counted, duration_codes, lasting}
 use Rattle.codes.specs.declared.MessageType.TheVariants as message
 use Rattle.codes.specs.declared.Status.TheVariants as status
 use Rattle.codes.specs.declared.Scope.TheVariants as scope
 use Rattle.codes.specs.declared.Urgency.TheVariants as urgency
 use Rattle.codes.specs.declared.Severity.TheVariants as severity
 use Rattle.codes.specs.declared.Certainty.TheVariants as certainty
-use Rattle.words.specs.declared.Wording.TheVariants.{Plain}
 use Rattle.sheet.specs.declared.Lasting.TheVariants.{Seconds}
 use Rattle.sheet.specs.declared.Parts.TheVariants.{OnePart}
 use Rattle.sheet.specs.Sheet.{all_name_bytes}
-use Rattle.sheet.specs.Sentence.{sentence, sentence_with, cap_text, parts_text, part_text, lasting_text}
+use Rattle.sheet.specs.Sentence.{sentence, sentence_in, cap_text, parts_text, part_text, lasting_text}
 use Rattle.sheet.specs.declared.Found.{Found}
 use Rattle.sheet.specs.declared.Found.TheVariants.{Cap}
 use Rattle.sheet.specs.Reading.{sheet_in}
@@ -112,7 +111,6 @@ abbrev pub kiln : (seconds : ℕ) → Found
 kiln seconds =
     Cap
     (record {
-      wording = Plain;
       message = message.Alert;
       status = status.Actual;
       scope = scope.Public;
@@ -204,8 +202,8 @@ unfolding cap_sheet sheet_in lasts_of look_up within fold starts document_of fir
     epoch
     local_seconds is_stamp stamp_of has_form days_of_years days_of_months next_of container_of class.class_of class.find class.names opening.prolog
     opening.declaration texts.content texts.is_fault texts.is_reference comments.comment attribute.name_space attribute.declared attribute.prefixed
-    attribute.equals attribute.value tags.tail tags.tag_end starts_with number_from sentence sentence_with cap_text parts_text part_text lasting_text dictionary
-    word spaced ones below_hundred below_thousand group number_codes said repeated counted duration_codes lasting cap_place any_text cap_why areas_of up_to_end texts_of shapes_of first_from first_of_kind polygon_rule circle_rule
+    attribute.equals attribute.value tags.tail tags.tag_end starts_with number_from sentence sentence_in cap_text parts_text part_text lasting_text dictionary
+    word spaced ones below_hundred below_thousand group number_codes said counted duration_codes lasting cap_place any_text cap_why areas_of up_to_end texts_of shapes_of first_from first_of_kind polygon_rule circle_rule
     circle_holds around_holds in_circle shorter_way cosines circle_of circle_tokens radius_of polygon_holds in_ring on_ring crossings on_edge crosses east_of north_of
     polygon_of places_of is_closed last_of pair_of degrees_of coordinate_at scaled fraction places decimal_length is_decimal leads tokens on_token
     longer

@@ -4,7 +4,6 @@ use Rattle.text.specs.Answers.{gives, refuses, giving}
 use Rattle.text.specs.Ascii.{ascii}
 use Rattle.time.specs.Time.{time_of}
 use Rattle.time.specs.Samples.{sample_2002, sample_first, sample_zones}
-use Rattle.words.specs.declared.Wording.TheVariants.{Plain}
 use Rattle.words.specs.Words.{words}
 use Rattle.words.specs.Duration.{duration}
 use Rattle.words.specs.Samples.{sample_numbers, sample_year, sample_quarter}
@@ -32,9 +31,9 @@ pub record Starred : Type 0 where
   pub from : time_of (ascii "2026-11-15T10:00:00-00:00") ≡ gives ten
   pub to : time_of (ascii "2026-11-15T11:15:00+01:00") ≡ gives quarter_past
   pub apart : quarter_past -ℤ ten ≡ pos 900
-  pub lasts : duration Plain 900 ≡ ascii "fifteen minutes"
+  pub lasts : duration 900 ≡ ascii "fifteen minutes"
   -- 31,536,000 s: three hundred sixty five days; 31,536,001: refusal 7
-  pub year : duration Plain 31_536_000 ≡ ascii "three hundred sixty five days"
+  pub year : duration 31_536_000 ≡ ascii "three hundred sixty five days"
   pub part_longest : cap_sheet 1 (until (ascii "2027-03-01T10:00:00-00:00")) ≡ gives (kiln 31_536_000)
   pub part_longer : cap_sheet 1 (until (ascii "2027-03-01T10:00:01-00:00")) ≡ refuses 7 0
   pub packet_longest : giving lasting_of (packet_of (packet_with 1 31_536_000)) ≡ gives 31_536_000

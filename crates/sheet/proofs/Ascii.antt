@@ -10,8 +10,6 @@ use Rattle.codes.specs.Lists.{lists, is_number, small_text}
 use Rattle.codes.specs.Values.{message_text, status_text, scope_text}
 use Rattle.codes.proofs.Each.{each_at}
 use Rattle.codes.proofs.Numbers.{Numbers, message_numbers, status_numbers, scope_numbers, urgency_numbers, severity_numbers, certainty_numbers}
-use Rattle.words.specs.declared.Wording.{Wording}
-use Rattle.words.specs.declared.Wording.TheVariants.{Plain, Checked}
 use Rattle.words.specs.Words.{dictionary, word, spaced, number_codes, said}
 use Rattle.words.specs.Duration.{duration_codes, lasting}
 use Rattle.sheet.specs.declared.Lasting.{Lasting}
@@ -22,7 +20,7 @@ use Rattle.sheet.specs.declared.Parts.TheVariants.{NoPart, OnePart}
 use Rattle.sheet.specs.declared.CapFacts.{CapFacts}
 use Rattle.sheet.specs.declared.WarnFacts.{WarnFacts}
 use Rattle.sheet.specs.Sheet.{Sheet, cap, warn}
-use Rattle.sheet.specs.Sentence.{opening, lasting_text, part_text, parts_text, cap_text, flag, flags_text, origin_text, hazard_text, warn_text, sentence_with, sentence, all_ascii, IsAsciiBut}
+use Rattle.sheet.specs.Sentence.{plain, lasting_text, part_text, parts_text, cap_text, flag, flags_text, origin_text, hazard_text, warn_text, sentence_in, sentence, all_ascii, IsAsciiBut}
 
 ascii_append : (a b : List ℕ) → all_ascii (a ++ b) ≡ all_ascii a && all_ascii b
 unfolding all_ascii
@@ -54,14 +52,9 @@ said_ascii : (n : ℕ) → all_ascii (said n) ≡ true
 unfolding said
 said_ascii n = spaced_ascii (number_codes n)
 
-lasting_ascii : (w : Wording) (s : ℕ) → all_ascii (lasting w s) ≡ true
+lasting_ascii : (s : ℕ) → all_ascii (lasting s) ≡ true
 unfolding lasting
-lasting_ascii w s = spaced_ascii (duration_codes w s)
-
-opening_ascii : (w : Wording) → all_ascii (opening w) ≡ true
-unfolding all_ascii
-opening_ascii Plain = refl
-opening_ascii Checked = refl
+lasting_ascii s = spaced_ascii (duration_codes s)
 
 -- ---- codes
 
@@ -74,41 +67,40 @@ code_ascii {l = l} {k = k} n = each_at is_ascii_code tt l k n.listed
 
 -- ---- a CAP sheet
 
-module _ (w : Wording) where
-  lasting_text_ascii : (x : Lasting) → all_ascii (lasting_text (lasting w) x) ≡ true
-  unfolding lasting_text all_ascii
-  lasting_text_ascii Unstated = refl
-  lasting_text_ascii (Seconds s) = lasting_ascii w s
+lasting_text_ascii : (x : Lasting) → all_ascii (lasting_text plain x) ≡ true
+unfolding lasting_text all_ascii
+lasting_text_ascii Unstated = refl
+lasting_text_ascii (Seconds s) = lasting_ascii s
 
-  part_ascii : (p : Part) → all_ascii (part_text (lasting w) p) ≡ true
-  unfolding part_text all_ascii
-  part_ascii p =
-      simp (
-        ascii_append,
-        said_ascii,
-        code_ascii (urgency_numbers p.urgency),
-        code_ascii (severity_numbers p.severity),
-        code_ascii (certainty_numbers p.certainty),
-        lasting_text_ascii,
-      )
+part_ascii : (p : Part) → all_ascii (part_text plain p) ≡ true
+unfolding part_text all_ascii
+part_ascii p =
+    simp (
+      ascii_append,
+      said_ascii,
+      code_ascii (urgency_numbers p.urgency),
+      code_ascii (severity_numbers p.severity),
+      code_ascii (certainty_numbers p.certainty),
+      lasting_text_ascii,
+    )
 
-  parts_ascii : (p : Parts) → all_ascii (parts_text (lasting w) p) ≡ true
-  unfolding parts_text all_ascii
-  parts_ascii NoPart = refl
-  parts_ascii (OnePart p) = part_ascii p
+parts_ascii : (p : Parts) → all_ascii (parts_text plain p) ≡ true
+unfolding parts_text all_ascii
+parts_ascii NoPart = refl
+parts_ascii (OnePart p) = part_ascii p
 
 module _ (f : CapFacts) (sender name : List ℕ) where
   cap_front : List ℕ
   cap_front =
-      opening f.wording ++ (ascii "cap " ++ (message_text f.message
+      ascii "cap " ++ (message_text f.message
       ++ (ascii ", " ++ (status_text f.status
-      ++ (ascii ", " ++ (scope_text f.scope ++ ascii ", from "))))))
+      ++ (ascii ", " ++ (scope_text f.scope ++ ascii ", from ")))))
 
   cap_rest : List ℕ
-  cap_rest = parts_text (lasting f.wording) f.parts ++ ascii ".\n"
+  cap_rest = parts_text plain f.parts ++ ascii ".\n"
 
   cap_ascii : IsAsciiBut (cap f sender name)
-  unfolding sentence sentence_with cap_text cap_front cap_rest all_ascii
+  unfolding sentence sentence_in cap_text cap_front cap_rest all_ascii
   cap_ascii = (
     cap_front,
     ascii ", name ",
@@ -120,21 +112,20 @@ module _ (f : CapFacts) (sender name : List ℕ) where
         code_ascii (message_numbers f.message),
         code_ascii (status_numbers f.status),
         code_ascii (scope_numbers f.scope),
-        opening_ascii,
-        parts_ascii f.wording,
+        parts_ascii,
       ),
     ),
   )
 
 -- ---- a WARN sheet
 
-flag_ascii : (b : Bool) (w : List ℕ) → all_ascii w ≡ true → all_ascii (flag b w) ≡ true
+flag_ascii : (b : Bool) (w : List ℕ) → all_ascii w ≡ true → all_ascii (flag plain b w) ≡ true
 unfolding flag all_ascii
 flag_ascii true w e = e
 flag_ascii false w e = refl
 
 module _ (x : WarnFacts) where
-  flags_ascii : all_ascii (flags_text x) ≡ true
+  flags_ascii : all_ascii (flags_text plain x) ≡ true
   unfolding flags_text all_ascii
   flags_ascii =
       simp (
@@ -145,19 +136,19 @@ module _ (x : WarnFacts) where
         flag_ascii x.test (ascii " test") refl,
       )
 
-  origin_ascii : all_ascii (origin_text (lasting x.wording) x) ≡ true
+  origin_ascii : all_ascii (origin_text plain x) ≡ true
   unfolding origin_text all_ascii
-  origin_ascii = simp (ascii_append, said_ascii, lasting_ascii x.wording)
+  origin_ascii = simp (ascii_append, said_ascii, lasting_ascii)
 
-  hazard_ascii : all_ascii (hazard_text x) ≡ true
+  hazard_ascii : all_ascii (hazard_text plain x) ≡ true
   unfolding hazard_text all_ascii
   hazard_ascii = simp (ascii_append, said_ascii)
 
-  warn_ascii : all_ascii (warn_text (lasting x.wording) x) ≡ true
+  warn_ascii : all_ascii (warn_text plain x) ≡ true
   unfolding warn_text all_ascii
   warn_ascii = simp (ascii_append, flags_ascii, origin_ascii, hazard_ascii)
 
 pub ascii_but : (x : Sheet) → IsAsciiBut x
-unfolding sentence sentence_with
+unfolding sentence sentence_in
 ascii_but (cap f sender name) = cap_ascii f sender name
-ascii_but (warn x) = rw (ascii_append, opening_ascii) (warn_ascii x)
+ascii_but (warn x) = warn_ascii x

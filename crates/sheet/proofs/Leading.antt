@@ -13,11 +13,9 @@ use borrow.Author.Tests.{eqb-true}
 use Rattle.text.specs.Ascii.{ascii}
 use Rattle.text.specs.Logic.{by_test, and_left, and_right}
 use Rattle.words.specs.declared.Quantity.{Quantity}
-use Rattle.words.specs.declared.Wording.{Wording}
 use Rattle.words.specs.Words.{said}
 use Rattle.words.specs.Duration.{lasting}
 use Rattle.words.specs.Reading.{number_at, duration_at, ends_number, ends_duration}
-use Rattle.words.proofs.Value.{AllBelow}
 use Rattle.words.proofs.ReadNumber.{read_said, ends_comma}
 use Rattle.words.proofs.ReadDuration.{read_duration}
 use Rattle.text.specs.Parts.{starts_with}
@@ -75,6 +73,10 @@ named_text [] ns r = r
 named_text (w ∷ ws) [] r = r
 named_text (w ∷ ws) (n ∷ ns) r = (ascii ", " ++ w) ++ (said n ++ named_text ws ns r)
 
+abbrev pub AllBelow : ℕ → List ℕ → Type 0
+AllBelow m [] = Unit {0}
+AllBelow m (n ∷ ns) = (n < m) × AllBelow m ns
+
 named_ends : (ws : List (List ℕ)) (ns r : List ℕ) → ends_number r ≡ true → ends_number (named_text ws ns r) ≡ true
 named_ends [] ns r e = e
 named_ends (w ∷ ws) [] r e = e
@@ -95,11 +97,11 @@ numbers_after_lem (w ∷ ws) (n ∷ ns) r q h e =
 
 -- ---- a duration
 
-module _ (w : Wording) (s : ℕ) (t : List ℕ) (h : s < 4_294_967_296) (e : ends_duration t ≡ true) where
-  pub duration_value : (duration_at 0 (lasting w s ++ t)).value ≡ s
-  duration_value = ap (λ (x : Quantity). x.value) (read_duration w s 0 t h e)
+module _ (s : ℕ) (t : List ℕ) (h : s < 4_294_967_296) (e : ends_duration t ≡ true) where
+  pub duration_value : (duration_at 0 (lasting s ++ t)).value ≡ s
+  duration_value = ap (λ (x : Quantity). x.value) (read_duration s 0 t h e)
 
-  pub after_duration : drop (duration_at 0 (lasting w s ++ t)).end (lasting w s ++ t) ≡ t
+  pub after_duration : drop (duration_at 0 (lasting s ++ t)).end (lasting s ++ t) ≡ t
   after_duration =
-      drop_at (lasting w s) t (duration_at 0 (lasting w s ++ t)).end
-      (sym (ap (λ (x : Quantity). x.end) (read_duration w s 0 t h e) ∙ zero-add (length (lasting w s))))
+      drop_at (lasting s) t (duration_at 0 (lasting s ++ t)).end
+      (sym (ap (λ (x : Quantity). x.end) (read_duration s 0 t h e) ∙ zero-add (length (lasting s))))

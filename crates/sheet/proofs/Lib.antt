@@ -11,7 +11,6 @@ pub mod WriteOne
 pub mod WriteAll
 pub mod ReadAll
 pub mod Demand3
-pub mod OneWord
 pub mod Samples3
 pub mod ReadLoop
 pub mod Ascii

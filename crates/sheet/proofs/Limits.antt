@@ -9,13 +9,12 @@ use lib.Dec.{eqb, leb, ltb}
 use lib.ListN.{length}
 use borrow.Author.Tests.{leb-true, ltb-true, not-true}
 use Rattle.text.specs.Logic.{and_left, and_right}
-use Rattle.words.specs.declared.Wording.{Wording}
 use Rattle.words.specs.Duration.{is_lasting}
 use Rattle.sheet.specs.declared.Part.{Part}
 use Rattle.sheet.specs.declared.Parts.TheVariants.{OnePart}
 use Rattle.sheet.specs.declared.CapFacts.{CapFacts}
 use Rattle.sheet.specs.declared.WarnFacts.{WarnFacts}
-use Rattle.sheet.specs.Sheet.{Sheet, cap, warn, worded, is_name_byte, all_name_bytes, holds_cdata_end, is_name, is_lasting_time, is_parts, fits_packet, in_range}
+use Rattle.sheet.specs.Sheet.{cap, warn, is_name_byte, all_name_bytes, holds_cdata_end, is_name, is_lasting_time, is_parts, fits_packet, in_range}
 use Rattle.sheet.specs.Reading.{word_length}
 
 -- ---- several tests that all hold
@@ -128,10 +127,3 @@ warn_range x e =
       certainty = ltb-true x.certainty 0x100 f.2;
       response = ltb-true x.response 0x100 f.3;
     }
-
--- ---- the wording has no part in the ranges
-
-pub worded_range : (w : Wording) (x : Sheet) → in_range (worded w x) ≡ in_range x
-unfolding in_range fits_packet
-worded_range w (cap f sender name) = refl
-worded_range w (warn x) = refl

@@ -7,29 +7,24 @@ use native.Mathlib.Omega.{arith}
 use lib.ListN.{length, drop, length-append}
 use lib.Seq.{drop-append_seam}
 use Rattle.text.specs.Logic.{by_test, and_left, and_right}
-use Rattle.words.specs.Duration.{lasting}
 use Rattle.sheet.specs.declared.Found.{Found}
 use Rattle.sheet.specs.declared.Line.{Line}
 use Rattle.sheet.specs.declared.Line.TheVariants as line
 use Rattle.text.specs.Parts.{starts_with}
 use Rattle.text.proofs.Parts.{starts_own}
-use Rattle.sheet.specs.Sheet.{Sheet, cap, warn, wording_of, in_range}
-use Rattle.sheet.specs.Sentence.{cap_text, warn_text, sentence_with, sentence}
+use Rattle.sheet.specs.Sheet.{Sheet, cap, warn, in_range}
+use Rattle.sheet.specs.Sentence.{cap_text, warn_text, sentence_in, sentence}
 use Rattle.sheet.specs.Reading.{found_at, sheet_of, is_line, line_at}
 use Rattle.sheet.specs.Answers.{line_length}
 use Rattle.sheet.proofs.Leading.{starts_split}
 use Rattle.sheet.proofs.ReadSentence.{sheet_of_sentence}
 
--- ---- the sentence of any sheet has a byte, however it says a duration
-
-pub with_some : (period : ℕ → List ℕ) (x : Sheet) → 0 < length (sentence_with period x)
-unfolding sentence_with cap_text warn_text
-with_some period (cap f sender name) = simp length-append (omega arith)
-with_some period (warn x) = simp length-append (omega arith)
+-- ---- the sentence of any sheet has a byte
 
 pub sentence_some : (x : Sheet) → 0 < length (sentence x)
-unfolding sentence
-sentence_some x = with_some (lasting (wording_of x)) x
+unfolding sentence sentence_in cap_text warn_text
+sentence_some (cap f sender name) = omega arith
+sentence_some (warn x) = omega arith
 
 -- ---- the sentence of a sheet in range leads a text
 

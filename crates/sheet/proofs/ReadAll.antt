@@ -190,30 +190,6 @@ read_all (suc n) i (b ∷ l) h =
     (read_all n (i + k) (drop k t) (simp length-drop (omega arith))))
     (λ e. inr (stopped_here i b l e))
 
--- a line that is none, behind read-backs
-stopped_behind :
-    (i : ℕ) (xs : List Sheet) (l : List ℕ) → all_in_range xs ≡ true → 0 < length l → is_line l ≡ false
-    → contents_from (length (sentences xs ++ l)) i (sentences xs ++ l) ≡ refuses 23 (i + length (sentences xs))
-unfolding sentences all_in_range
-stopped_behind i [] l v h e = contents_stop i l h e ∙ ap (refuses 23) (omega arith)
-stopped_behind i (x ∷ xs) l v h e =
-    let r = and_left (in_range x) (all_in_range xs) v in
-    let t = sentences xs ++ l in
-    rw append_assoc
-    (contents_on i (sentence x ++ t) (is_line_lem x t r)
-    ∙ rw (after_line x t r, line_length_lem x t r)
-    (ap (followed_by (found_at i (sentence x ++ t)))
-    (stopped_behind (i + length (sentence x)) xs l (and_right (in_range x) (all_in_range xs) v) h e)
-    ∙ ap (refuses 23) (simp length-append (omega arith))))
-
-pub refused_behind :
-    (xs : List Sheet) (l : List ℕ) (k : ℕ) → all_in_range xs ≡ true → 0 < length l → is_line l ≡ false
-    → read_back (sentences xs ++ l) k ≡ refuses 23 (length (sentences xs))
-unfolding read_back contents_of
-refused_behind xs l k v h e =
-    ap (λ (c : Answer (List Found)). answer_and_then c (asked k)) (stopped_behind 0 xs l v h e)
-    ∙ ap (refuses 23) (zero-add (length (sentences xs)))
-
 refused_at : (t : List ℕ) → Stopped 0 t → Refuses t
 unfolding read_back contents_of
 refused_at t s = record {

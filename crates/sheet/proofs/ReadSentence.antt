@@ -1,7 +1,7 @@
 -- Reading a sentence undoes writing it, wherever it stands in a text.
 use mathlib.Core.Path.{◌≡◌, refl, sym, ap, ap₂, ◌∙◌}
 use mathlib.Core.Bool.{true, false}
-use mathlib.Core.List.{List, [], ◌++◌, append_assoc, append-nil}
+use mathlib.Core.List.{List, [], ◌++◌, append-nil}
 use Prim.Native.Nat.{ℕ, ◌+◌, ◌-◌, ◌≤◌}
 use native.Mathlib.Omega.{arith}
 use lib.Dec.{leb}
@@ -13,15 +13,12 @@ use Rattle.text.specs.Logic.{by_test}
 use Rattle.sheet.specs.declared.CapFacts.{CapFacts}
 use Rattle.sheet.specs.declared.WarnFacts.{WarnFacts}
 use Rattle.text.specs.Parts.{starts_with}
-use Rattle.words.specs.declared.Wording.{Wording}
-use Rattle.words.specs.declared.Wording.TheVariants.{Plain, Checked}
-use Rattle.words.specs.Duration.{lasting}
 use Rattle.words.specs.Reading.{number_at, duration_at}
 use Rattle.sheet.specs.Sheet.{Sheet, cap, warn, in_range}
-use Rattle.sheet.specs.Sentence.{opening, cap_text, warn_text, sentence_with, sentence}
-use Rattle.sheet.specs.Reading.{word_length, word_of, after_word, wording_at, from_kind, rest_after, rest_after_all, from_period, from_hazard, from_message, from_status, from_scope, from_sender, from_name, cap_of, warn_of, found_at, sheet_in, sheet_of}
+use Rattle.sheet.specs.Sentence.{plain, cap_text, warn_text, sentence_in, sentence}
+use Rattle.sheet.specs.Reading.{word_length, word_of, after_word, rest_after, rest_after_all, from_period, from_hazard, from_message, from_status, from_scope, from_sender, from_name, cap_of, warn_of, found_at, sheet_in, sheet_of}
 use Rattle.sheet.proofs.Limits.{cap_range, warn_range}
-use Rattle.sheet.proofs.ReadCap.{cap_steps, cap_read}
+use Rattle.sheet.proofs.ReadCap.{cap_read}
 use Rattle.sheet.proofs.ReadWarn.{warn_read}
 
 -- ---- where the sender and the name stand
@@ -52,19 +49,13 @@ module _ (l : List ℕ) where
   unfolding after_word
   after_rest k a r = rest_drop k (drop (word_length a) a) l (rest_drop (word_length a) a l r)
 
-  kind_rest : Rest (from_kind l) l
-  unfolding from_kind
-  kind_rest = record { from = length (opening (wording_at l)); is = refl }
-
-  pub sender_rest : Rest (from_sender (from_kind l)) l
+  pub sender_rest : Rest (from_sender l) l
   unfolding from_status from_scope from_sender
-  sender_rest =
-      after_rest 7 (from_scope (from_kind l))
-      (after_rest 2 (from_status (from_kind l)) (after_rest 2 (from_message (from_kind l)) (rest_drop 4 (from_kind l) l kind_rest)))
+  sender_rest = after_rest 7 (from_scope l) (after_rest 2 (from_status l) (after_rest 2 (from_message l) (record { from = 4; is = refl })))
 
-  pub name_rest : Rest (from_name (from_kind l)) l
+  pub name_rest : Rest (from_name l) l
   unfolding from_name
-  name_rest = after_rest 7 (from_sender (from_kind l)) sender_rest
+  name_rest = after_rest 7 (from_sender l) sender_rest
 
   number_rest : (k : ℕ) (a : List ℕ) → Rest a l → Rest (rest_after k a) l
   unfolding rest_after
@@ -84,97 +75,56 @@ module _ (i : ℕ) (t : List ℕ) where
   unfolding word_of
   span_at_lem k a e = ap (take (word_length a)) (sym (drop-drop k i t) ∙ e)
 
-  -- at any offset of a text; b: what stands there after the opening
-  module _ {b : List ℕ} (k : from_kind (drop i t) ≡ b) where
-    pub found_warn : starts_with (ascii "warn") b ≡ true → sheet_in t (found_at i (drop i t)) ≡ warn (warn_of (wording_at (drop i t)) b)
-    unfolding found_at sheet_in
-    found_warn e = rw (k, e)
+  -- at any offset of a text
+  pub found_warn : starts_with (ascii "warn") (drop i t) ≡ true → sheet_in t (found_at i (drop i t)) ≡ warn (warn_of (drop i t))
+  unfolding found_at sheet_in
+  found_warn e = rw e
 
-    pub found_cap :
-        starts_with (ascii "warn") b ≡ false
-        → sheet_in t (found_at i (drop i t)) ≡ cap (cap_of (wording_at (drop i t)) b) (word_of (from_sender b)) (word_of (from_name b))
-    unfolding found_at sheet_in
-    found_cap e =
-        let l = drop i t in
-        let s = rw k at (sender_rest l) in
-        let n = rw k at (name_rest l) in
-        rw (k, e)
-        (ap₂ (cap (cap_of (wording_at l) b)) (span_at_lem (length l - length (from_sender b)) (from_sender b) (rest_offset (from_sender b) l s))
-        (span_at_lem (length l - length (from_name b)) (from_name b) (rest_offset (from_name b) l n)))
+  pub found_cap :
+      starts_with (ascii "warn") (drop i t) ≡ false
+      → sheet_in t (found_at i (drop i t)) ≡ cap (cap_of (drop i t)) (word_of (from_sender (drop i t))) (word_of (from_name (drop i t)))
+  unfolding found_at sheet_in
+  found_cap e =
+      let l = drop i t in
+      rw e
+      (ap₂ (cap (cap_of l)) (span_at_lem (length l - length (from_sender l)) (from_sender l) (rest_offset (from_sender l) l (sender_rest l)))
+      (span_at_lem (length l - length (from_name l)) (from_name l) (rest_offset (from_name l) l (name_rest l))))
 
 -- from the start of a text
-module _ (l : List ℕ) {b : List ℕ} (k : from_kind l ≡ b) where
-  pub sheet_warn : starts_with (ascii "warn") b ≡ true → sheet_of l ≡ warn (warn_of (wording_at l) b)
-  unfolding sheet_of
-  sheet_warn e = found_warn 0 l k e
+pub sheet_warn : (l : List ℕ) → starts_with (ascii "warn") l ≡ true → sheet_of l ≡ warn (warn_of l)
+unfolding sheet_of
+sheet_warn l e = found_warn 0 l e
 
-  pub sheet_cap : starts_with (ascii "warn") b ≡ false → sheet_of l ≡ cap (cap_of (wording_at l) b) (word_of (from_sender b)) (word_of (from_name b))
-  unfolding sheet_of
-  sheet_cap e = found_cap 0 l k e
+pub sheet_cap : (l : List ℕ) → starts_with (ascii "warn") l ≡ false → sheet_of l ≡ cap (cap_of l) (word_of (from_sender l)) (word_of (from_name l))
+unfolding sheet_of
+sheet_cap l e = found_cap 0 l e
 
 -- what stands at an offset of a text is the sheet of the text from there on
 pub found_at_lem : (i : ℕ) (t : List ℕ) → sheet_in t (found_at i (drop i t)) ≡ sheet_of (drop i t)
 found_at_lem i t =
     let l = drop i t in
-    by_test (starts_with (ascii "warn") (from_kind l))
-    (λ e. found_warn i t refl e ∙ sym (sheet_warn l refl e))
-    (λ e. found_cap i t refl e ∙ sym (sheet_cap l refl e))
-
--- ---- the opening tells the wording, and the next word the kind
-
--- a text behind an opening, as the sentences of both kinds are
-pub record Opened (w : Wording) (b : List ℕ) : Type 0 where
-  pub wording : wording_at (opening w ++ b) ≡ w
-  pub rest : from_kind (opening w ++ b) ≡ b
-
-module _ (period : ℕ → List ℕ) (rest : List ℕ) where
-  pub cap_opened : (w : Wording) (f : CapFacts) (sender name : List ℕ) → Opened w (cap_text period f sender name ++ rest)
-  unfolding wording_at from_kind starts_with cap_text
-  cap_opened Plain f sender name = record { wording = refl; rest = refl }
-  cap_opened Checked f sender name = record { wording = refl; rest = refl }
-
-  pub warn_opened : (w : Wording) (x : WarnFacts) → Opened w (warn_text period x ++ rest)
-  unfolding wording_at from_kind starts_with warn_text
-  warn_opened Plain x = record { wording = refl; rest = refl }
-  warn_opened Checked x = record { wording = refl; rest = refl }
-
-  pub cap_starts : (f : CapFacts) (sender name : List ℕ) → starts_with (ascii "warn") (cap_text period f sender name ++ rest) ≡ false
-  unfolding starts_with cap_text
-  cap_starts f sender name = refl
-
-  pub warn_starts : (x : WarnFacts) → starts_with (ascii "warn") (warn_text period x ++ rest) ≡ true
-  unfolding starts_with warn_text
-  warn_starts x = refl
-
-  -- what is read from a sentence with its durations said in any way
-  pub cap_sheet_lem :
-      (f : CapFacts) (sender name : List ℕ) → let b = cap_text period f sender name ++ rest in
-      sheet_of (sentence_with period (cap f sender name) ++ rest) ≡ cap (cap_of f.wording b) (word_of (from_sender b)) (word_of (from_name b))
-  unfolding sentence_with
-  cap_sheet_lem f sender name =
-      let b = cap_text period f sender name ++ rest in
-      let o = cap_opened f.wording f sender name in
-      rw append_assoc
-      (sheet_cap (opening f.wording ++ b) o.rest (cap_starts f sender name)
-      ∙ ap (λ (w : Wording). cap (cap_of w b) (word_of (from_sender b)) (word_of (from_name b))) o.wording)
-
-  pub warn_sheet : (x : WarnFacts) → sheet_of (sentence_with period (warn x) ++ rest) ≡ warn (warn_of x.wording (warn_text period x ++ rest))
-  unfolding sentence_with
-  warn_sheet x =
-      let b = warn_text period x ++ rest in
-      let o = warn_opened x.wording x in
-      rw append_assoc (sheet_warn (opening x.wording ++ b) o.rest (warn_starts x) ∙ ap (λ (w : Wording). warn (warn_of w b)) o.wording)
+    by_test (starts_with (ascii "warn") l)
+    (λ e. found_warn i t e ∙ sym (sheet_warn l e))
+    (λ e. found_cap i t e ∙ sym (sheet_cap l e))
 
 -- ---- reading undoes writing
 
+cap_starts : (f : CapFacts) (sender name rest : List ℕ) → starts_with (ascii "warn") (cap_text plain f sender name ++ rest) ≡ false
+unfolding starts_with cap_text
+cap_starts f sender name rest = refl
+
+warn_starts : (x : WarnFacts) (rest : List ℕ) → starts_with (ascii "warn") (warn_text plain x ++ rest) ≡ true
+unfolding starts_with warn_text
+warn_starts x rest = refl
+
 pub sheet_of_sentence : (x : Sheet) (rest : List ℕ) → in_range x ≡ true → sheet_of (sentence x ++ rest) ≡ x
-unfolding sentence
+unfolding sentence sentence_in
 sheet_of_sentence (cap f sender name) rest h =
-    let v = cap_range f sender name h in
-    let r = cap_steps (lasting f.wording) f sender name rest v in
-    let g = cap_read f sender name rest v in
-    cap_sheet_lem (lasting f.wording) rest f sender name ∙ (λ i. cap (g i) (r.from i) (r.called i))
-sheet_of_sentence (warn x) rest h = warn_sheet (lasting x.wording) rest x ∙ ap warn (warn_read x rest (warn_range x h))
+    let r = cap_read f sender name rest (cap_range f sender name h) in
+    sheet_cap (cap_text plain f sender name ++ rest) (cap_starts f sender name rest)
+    ∙ (λ i. cap (r.facts i) (r.from i) (r.called i))
+sheet_of_sentence (warn x) rest h =
+    sheet_warn (warn_text plain x ++ rest) (warn_starts x rest) ∙ ap warn (warn_read x rest (warn_range x h))
 
 -- a sentence by itself
 pub sheet_of_whole : (x : Sheet) → in_range x ≡ true → sheet_of (sentence x) ≡ x

@@ -6,13 +6,12 @@ use Prim.Native.Nat.{ℕ, ◌%◌, ◌<◌}
 use native.Mathlib.Omega.{arith}
 use lib.ListN.{length, drop}
 use Rattle.text.specs.Ascii.{ascii}
-use Rattle.words.specs.declared.Wording.{Wording}
 use Rattle.words.specs.Duration.{lasting}
 use Rattle.words.specs.Reading.{duration_at, ends_duration}
 use Rattle.words.proofs.ReadNumber.{ends_comma, ends_stop}
 use Rattle.sheet.specs.declared.WarnFacts.{WarnFacts}
 use Rattle.text.specs.Parts.{starts_with}
-use Rattle.sheet.specs.Sentence.{flag, flags_text, origin_text, hazard_text, warn_text}
+use Rattle.sheet.specs.Sentence.{plain, flag, flags_text, origin_text, hazard_text, warn_text}
 use Rattle.sheet.specs.Reading.{byte_of, numbers_after, from_urgent, from_update, from_cancel, from_test, after_flags, origin_names, from_period, from_hazard, hazard_names, warn_of}
 use Rattle.sheet.proofs.Leading.{named_text, numbers_after_lem, duration_value, after_duration}
 use Rattle.sheet.proofs.Limits.{WarnRange}
@@ -21,8 +20,8 @@ use Rattle.sheet.proofs.Limits.{WarnRange}
 
 abbrev flags_on : Bool → Bool → Bool → Bool → List ℕ → List ℕ
 flags_on u d c t q =
-    flag u (ascii " urgent") ++ (flag d (ascii " update") ++ (flag c (ascii " cancel")
-    ++ (flag t (ascii " test") ++ (ascii ", event" ++ q))))
+    flag plain u (ascii " urgent") ++ (flag plain d (ascii " update") ++ (flag plain c (ascii " cancel")
+    ++ (flag plain t (ascii " test") ++ (ascii ", event" ++ q))))
 
 abbrev warn_on : Bool → Bool → Bool → Bool → List ℕ → List ℕ
 warn_on u d c t q = ascii "warn alert" ++ flags_on u d c t q
@@ -62,21 +61,19 @@ origin_numbers x = x.event ∷ x.number ∷ x.origin ∷ []
 abbrev hazard_numbers : WarnFacts → List ℕ
 hazard_numbers x = x.hazard ∷ x.kind ∷ x.urgency ∷ x.severity ∷ x.certainty ∷ x.response ∷ []
 
--- from ", hazard" on, from ", lasts" on, and from after ", event" on; d: the duration's words
-abbrev pub hazard_on : WarnFacts → List ℕ → List ℕ
+-- from ", hazard" on, from ", lasts" on, and from after ", event" on
+abbrev hazard_on : WarnFacts → List ℕ → List ℕ
 hazard_on x t = named_text hazard_names (hazard_numbers x) (ascii ".\n" ++ t)
 
-abbrev period_on : WarnFacts → (d t : List ℕ) → List ℕ
-period_on x d t = ascii ", lasts" ++ (d ++ hazard_on x t)
+abbrev period_on : WarnFacts → List ℕ → List ℕ
+period_on x t = ascii ", lasts" ++ (lasting x.lasting ++ hazard_on x t)
 
-abbrev event_on : WarnFacts → (d t : List ℕ) → List ℕ
-event_on x d t = drop (length (ascii ", event")) (named_text origin_names (origin_numbers x) (period_on x d t))
+abbrev event_on : WarnFacts → List ℕ → List ℕ
+event_on x t = drop (length (ascii ", event")) (named_text origin_names (origin_numbers x) (period_on x t))
 
-warn_text_lem :
-    (period : ℕ → List ℕ) (x : WarnFacts) (t : List ℕ)
-    → warn_text period x ++ t ≡ warn_on x.urgent x.update x.cancel x.test (event_on x (period x.lasting) t)
+warn_text_lem : (x : WarnFacts) (t : List ℕ) → warn_text plain x ++ t ≡ warn_on x.urgent x.update x.cancel x.test (event_on x t)
 unfolding warn_text flags_text origin_text hazard_text
-warn_text_lem period x t = simp append_assoc
+warn_text_lem x t = simp append_assoc
 
 below_byte : (n : ℕ) → n < 0x100 → byte_of n ≡ n
 below_byte n h = omega arith
@@ -84,51 +81,25 @@ below_byte n h = omega arith
 below_word : (n : ℕ) → n < 0x1_0000 → n % 0x1_0000 ≡ n
 below_word n h = omega arith
 
--- the numbers in front of the duration are read where they stand, and the duration starts after them
-record OriginRead (x : WarnFacts) (d t l : List ℕ) : Type 0 where
-  pub origins : numbers_after origin_names l ≡ origin_numbers x
-  pub lasts : from_period l ≡ d ++ hazard_on x t
-
-origin_read : (x : WarnFacts) (d t : List ℕ) → WarnRange x → OriginRead x d t (named_text origin_names (origin_numbers x) (period_on x d t))
-unfolding from_period
-origin_read x d t v =
-    let o = numbers_after_lem origin_names (origin_numbers x) (period_on x d t) refl (v.event, (omega (arith, v.number), (v.origin, tt))) (ends_comma _) in
-    record { origins = o.0; lasts = ap (drop (length (ascii ", lasts"))) o.1 }
-
--- where the duration starts, said in any way, and what stands after it
-pub warn_lasts :
-    (period : ℕ → List ℕ) (x : WarnFacts) (t : List ℕ) → WarnRange x
-    → from_period (after_flags (warn_text period x ++ t)) ≡ period x.lasting ++ hazard_on x t
-warn_lasts period x t v =
-    let d = period x.lasting in
-    let f = flags_read x.urgent x.update x.cancel x.test (event_on x d t) in
-    ap (λ (l : List ℕ). from_period (after_flags l)) (warn_text_lem period x t) ∙ ap from_period f.rest ∙ (origin_read x d t v).lasts
-
-pub hazard_ends : (x : WarnFacts) (t : List ℕ) → ends_duration (hazard_on x t) ≡ true
-unfolding ends_duration
-hazard_ends x t = refl
-
--- the numbers after the duration, too
+-- the numbers are read where they stand
 record NumbersRead (x : WarnFacts) (l : List ℕ) : Type 0 where
   pub origins : numbers_after origin_names l ≡ origin_numbers x
   pub period : (duration_at 0 (from_period l)).value ≡ x.lasting
   pub hazards : numbers_after hazard_names (from_hazard l) ≡ hazard_numbers x
 
-numbers_read_lem :
-    (w : Wording) (x : WarnFacts) (t : List ℕ) → WarnRange x
-    → NumbersRead x (named_text origin_names (origin_numbers x) (period_on x (lasting w x.lasting) t))
-unfolding from_hazard
-numbers_read_lem w x t v =
-    let h = hazard_on x t in
+numbers_read_lem : (x : WarnFacts) (t : List ℕ) → WarnRange x → NumbersRead x (named_text origin_names (origin_numbers x) (period_on x t))
+unfolding from_period from_hazard ends_duration
+numbers_read_lem x t v =
+    let w = hazard_on x t in
     let d : x.lasting < 4_294_967_296 = omega (arith, v.lasting) in
-    let e = hazard_ends x t in
-    let o = origin_read x (lasting w x.lasting) t v in
+    let o = numbers_after_lem origin_names (origin_numbers x) (period_on x t) refl (v.event, (omega (arith, v.number), (v.origin, tt))) (ends_comma _) in
+    let f = ap (drop (length (ascii ", lasts"))) o.1 in
     record {
-      origins = o.origins;
-      period = ap (λ (y : List ℕ). (duration_at 0 y).value) o.lasts ∙ duration_value w x.lasting h d e;
+      origins = o.0;
+      period = ap (λ (y : List ℕ). (duration_at 0 y).value) f ∙ duration_value x.lasting w d refl;
       hazards =
-          ap (λ (y : List ℕ). numbers_after hazard_names (drop (duration_at 0 y).end y)) o.lasts
-          ∙ ap (numbers_after hazard_names) (after_duration w x.lasting h d e)
+          ap (λ (y : List ℕ). numbers_after hazard_names (drop (duration_at 0 y).end y)) f
+          ∙ ap (numbers_after hazard_names) (after_duration x.lasting w d refl)
           ∙ (numbers_after_lem hazard_names (hazard_numbers x) (ascii ".\n" ++ t) refl (
             omega (arith, v.hazard),
             (
@@ -139,17 +110,15 @@ numbers_read_lem w x t v =
           (ends_stop (ascii "\n" ++ t))).0;
     }
 
--- read in its own wording
-pub warn_read : (x : WarnFacts) (t : List ℕ) → WarnRange x → warn_of x.wording (warn_text (lasting x.wording) x ++ t) ≡ x
+pub warn_read : (x : WarnFacts) (t : List ℕ) → WarnRange x → warn_of (warn_text plain x ++ t) ≡ x
 unfolding warn_of
 warn_read x t v =
-    let d = lasting x.wording x.lasting in
-    let n = numbers_read_lem x.wording x t v in
-    let f = flags_read x.urgent x.update x.cancel x.test (event_on x d t) in
-    ap (warn_of x.wording) (warn_text_lem (lasting x.wording) x t)
+    let q = event_on x t in
+    let n = numbers_read_lem x t v in
+    let f = flags_read x.urgent x.update x.cancel x.test q in
+    ap warn_of (warn_text_lem x t)
     ∙ rw (f.rest, n.origins, n.period, n.hazards)
     (λ i. record {
-      wording = x.wording;
       urgent = f.urgent i;
       update = f.update i;
       cancel = f.cancel i;

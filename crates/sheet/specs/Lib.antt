@@ -3,5 +3,4 @@ pub mod Sentence
 pub mod Reading
 pub mod Answers
 pub mod Demand
-pub mod OneWord
 pub mod Samples

@@ -7,8 +7,6 @@ use Rattle.text.specs.Ascii.{ascii}
 use Rattle.codes.specs.Lists as list
 use Rattle.codes.specs.Lists.{small_code_of}
 use Rattle.codes.specs.Values.{message_at, status_at, scope_at, urgency_at, severity_at, certainty_at}
-use Rattle.words.specs.declared.Wording.{Wording}
-use Rattle.words.specs.declared.Wording.TheVariants.{Plain, Checked}
 use Rattle.words.specs.Reading.{number_at, duration_at}
 use Rattle.codes.specs.declared.MessageType.{MessageType}
 use Rattle.codes.specs.declared.Status.{Status}
@@ -30,7 +28,7 @@ use Rattle.sheet.specs.declared.Line.{Line}
 use Rattle.sheet.specs.declared.Line.TheVariants as line
 use Rattle.text.specs.Parts.{starts_with}
 use Rattle.sheet.specs.Sheet.{Sheet, cap, warn, in_range}
-use Rattle.sheet.specs.Sentence.{opening, sentence}
+use Rattle.sheet.specs.Sentence.{sentence}
 
 -- ---- a word: the bytes to the next comma
 
@@ -85,15 +83,7 @@ severity_of w = severity_at (small_code_of list.severity w)
 abbrev pub certainty_of : List ℕ → Certainty
 certainty_of w = certainty_at (small_code_of list.certainty w)
 
--- ---- the wording, which the opening tells, and the text after the opening
-
-unfoldable pub wording_at : List ℕ → Wording
-wording_at l = cond (starts_with (opening Checked) l) Checked Plain
-
-unfoldable pub from_kind : List ℕ → List ℕ
-from_kind l = drop (length (opening (wording_at l))) l
-
--- ---- a CAP sentence in the wording w, from after its opening
+-- ---- a CAP sentence, from its start
 
 -- the texts from the message type, the status, the scope, the sender, the name and what follows it on
 abbrev pub from_message : List ℕ → List ℕ
@@ -146,16 +136,15 @@ part_of l = record {
 unfoldable pub parts_of : List ℕ → Parts
 parts_of l = cond (starts_with (ascii ", part") l) (OnePart (part_of l)) NoPart
 
-unfoldable pub cap_of : Wording → List ℕ → CapFacts
-cap_of w l = record {
-  wording = w;
+unfoldable pub cap_of : List ℕ → CapFacts
+cap_of l = record {
   message = message_of (word_of (from_message l));
   status = status_of (word_of (from_status l));
   scope = scope_of (word_of (from_scope l));
   parts = parts_of (from_parts l);
 }
 
--- ---- a WARN sentence in the wording w, from after its opening
+-- ---- a WARN sentence, from its start
 
 -- a flag's word is passed over where it stands
 abbrev pub after_flag : List ℕ → List ℕ → List ℕ
@@ -197,9 +186,8 @@ hazard_names = ascii "hazard" ∷ ascii "kind" ∷ ascii "urgency" ∷ ascii "se
 abbrev pub hazard_byte : ℕ → List ℕ → ℕ
 hazard_byte i l = byte_of (get_or (numbers_after hazard_names l) i 0)
 
-unfoldable pub warn_of : Wording → List ℕ → WarnFacts
-warn_of w l = record {
-  wording = w;
+unfoldable pub warn_of : List ℕ → WarnFacts
+warn_of l = record {
   urgent = starts_with (ascii " urgent") (from_urgent l);
   update = starts_with (ascii " update") (from_update l);
   cancel = starts_with (ascii " cancel") (from_cancel l);
@@ -225,9 +213,9 @@ span_at i l rest = record { start = i + (length l - length rest); len = word_len
 -- what a text that stands at offset i says, as far as it can be read
 unfoldable pub found_at : ℕ → List ℕ → Found
 found_at i l =
-    cond (starts_with (ascii "warn") (from_kind l))
-    (found.Warn (warn_of (wording_at l) (from_kind l)))
-    (found.Cap (cap_of (wording_at l) (from_kind l)) (span_at i l (from_sender (from_kind l))) (span_at i l (from_name (from_kind l))))
+    cond (starts_with (ascii "warn") l)
+    (found.Warn (warn_of l))
+    (found.Cap (cap_of l) (span_at i l (from_sender l)) (span_at i l (from_name l)))
 
 abbrev pub span_in : List ℕ → Span → List ℕ
 span_in t s = take s.len (drop s.start t)

@@ -1,29 +1,24 @@
--- The three whole samples of document 01, as the sentences of their sheets; and sentences in the second wording of document 02, [13].
+-- The three whole samples of document 01, as the sentences of their sheets.
 use Rattle.std.specs.Prelude.{◌≡◌, refl, true, false}
 use Rattle.text.specs.Ascii.{ascii}
-use Rattle.text.specs.Bytes.{decimal}
-use Rattle.words.specs.declared.Wording.TheVariants.{Plain, Checked}
-use Rattle.words.specs.Words.{dictionary, word, spaced, ones, below_hundred, below_thousand, group, number_codes, said, digit_codes}
-use Rattle.words.specs.Duration.{repeated, counted, duration_codes, lasting}
+use Rattle.words.specs.Words.{dictionary, word, spaced, ones, below_hundred, below_thousand, group, number_codes, said}
+use Rattle.words.specs.Duration.{counted, duration_codes, lasting}
 use Rattle.codes.specs.declared.MessageType.TheVariants as message
 use Rattle.codes.specs.declared.Status.TheVariants as status
 use Rattle.codes.specs.declared.Scope.TheVariants as scope
 use Rattle.codes.specs.declared.Urgency.TheVariants as urgency
 use Rattle.codes.specs.declared.Severity.TheVariants as severity
 use Rattle.codes.specs.declared.Certainty.TheVariants as certainty
-use Rattle.sheet.specs.declared.Lasting.{Lasting}
-use Rattle.sheet.specs.declared.Lasting.TheVariants.{Unstated, Seconds}
+use Rattle.sheet.specs.declared.Lasting.TheVariants.{Seconds}
 use Rattle.sheet.specs.declared.Parts.TheVariants.{NoPart, OnePart}
 use Rattle.codes.specs.Lists.{lists, small_text}
-use Rattle.sheet.specs.Sheet.{Sheet, cap, warn, worded}
-use Rattle.sheet.specs.Sentence.{sentence, sentence_with, cap_text, parts_text, part_text, lasting_text, warn_text, flags_text, flag, origin_text, hazard_text}
+use Rattle.sheet.specs.Sheet.{Sheet, cap, warn}
+use Rattle.sheet.specs.Sentence.{sentence, sentence_in, cap_text, parts_text, part_text, lasting_text, warn_text, flags_text, flag, origin_text, hazard_text}
 
--- the first sample's sheet with another lasting time
-abbrev pub kiln_lasting : Lasting → Sheet
-kiln_lasting d =
+abbrev pub kiln_alert : Sheet
+kiln_alert =
     cap
     (record {
-      wording = Plain;
       message = message.Alert;
       status = status.Actual;
       scope = scope.Public;
@@ -34,19 +29,16 @@ kiln_lasting d =
             urgency = urgency.Immediate;
             severity = severity.Extreme;
             certainty = certainty.Observed;
-            lasting = d;
+            lasting = Seconds 900;
           });
     })
     (ascii "kiln.example")
     (ascii "A17")
 
-abbrev pub kiln_alert : Sheet
-kiln_alert = kiln_lasting (Seconds 900)
-
 abbrev pub kiln_cancel : Sheet
 kiln_cancel =
     cap
-    (record { wording = Plain; message = message.Cancel; status = status.Actual; scope = scope.Public; parts = NoPart })
+    (record { message = message.Cancel; status = status.Actual; scope = scope.Public; parts = NoPart })
     (ascii "kiln.example")
     (ascii "A18")
 
@@ -54,7 +46,6 @@ abbrev pub warn_cancel : Sheet
 warn_cancel =
     warn
     (record {
-      wording = Plain;
       urgent = true;
       update = false;
       cancel = true;
@@ -72,26 +63,15 @@ warn_cancel =
     })
 
 pub sample_alert : sentence kiln_alert ≡ ascii "cap alert, actual, public, from kiln.example, name A17, part one of one, immediate, extreme, observed, lasts fifteen minutes.\n"
-unfolding dictionary word spaced ones below_hundred below_thousand group number_codes said repeated counted duration_codes lasting lists small_text sentence
-    sentence_with cap_text parts_text part_text lasting_text
+unfolding dictionary word spaced ones below_hundred below_thousand group number_codes said counted duration_codes lasting lists small_text sentence
+    sentence_in cap_text parts_text part_text lasting_text
 sample_alert = refl
 
 pub sample_cancel : sentence kiln_cancel ≡ ascii "cap cancel, actual, public, from kiln.example, name A18, no parts.\n"
-unfolding lists small_text sentence sentence_with cap_text parts_text
+unfolding lists small_text sentence sentence_in cap_text parts_text
 sample_cancel = refl
 
 pub sample_warn : sentence warn_cancel ≡ ascii "warn alert urgent cancel, event seven, number two, origin twenty one, lasts one hour five minutes, hazard one, kind zero, urgency three, severity two, certainty one, response zero.\n"
-unfolding dictionary word spaced ones below_hundred below_thousand group number_codes said repeated counted duration_codes lasting sentence sentence_with warn_text
+unfolding dictionary word spaced ones below_hundred below_thousand group number_codes said counted duration_codes lasting sentence sentence_in warn_text
     flags_text flag origin_text hazard_text
 sample_warn = refl
-
--- "lasts fifteen as one five minutes"; 365 days; no stated time; no parts; and a WARN sheet that lasts one hour five minutes
-pub sample_checked :
-    (sentence (worded Checked kiln_alert) ≡ ascii "checked cap alert, actual, public, from kiln.example, name A17, part one of one, immediate, extreme, observed, lasts fifteen as one five minutes.\n")
-    × (sentence (worded Checked (kiln_lasting (Seconds 31_536_000))) ≡ ascii "checked cap alert, actual, public, from kiln.example, name A17, part one of one, immediate, extreme, observed, lasts three hundred sixty five as three six five days.\n")
-    × (sentence (worded Checked (kiln_lasting Unstated)) ≡ ascii "checked cap alert, actual, public, from kiln.example, name A17, part one of one, immediate, extreme, observed, lasts no stated time.\n")
-    × (sentence (worded Checked kiln_cancel) ≡ ascii "checked cap cancel, actual, public, from kiln.example, name A18, no parts.\n")
-    × (sentence (worded Checked warn_cancel) ≡ ascii "checked warn alert urgent cancel, event seven, number two, origin twenty one, lasts one as one hour five as five minutes, hazard one, kind zero, urgency three, severity two, certainty one, response zero.\n")
-unfolding dictionary word spaced ones below_hundred below_thousand group number_codes said decimal digit_codes repeated counted duration_codes lasting lists
-    small_text sentence sentence_with cap_text parts_text part_text lasting_text warn_text flags_text flag origin_text hazard_text
-sample_checked = (refl, refl, refl, refl, refl)

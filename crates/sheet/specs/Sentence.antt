@@ -3,8 +3,6 @@ use Rattle.std.specs.Prelude.{◌≡◌, Bool, true, cond, ◌&&◌, List, [], �
 use Rattle.text.specs.Ascii.{ascii}
 use Rattle.words.specs.Words.{said}
 use Rattle.words.specs.Duration.{lasting}
-use Rattle.words.specs.declared.Wording.{Wording}
-use Rattle.words.specs.declared.Wording.TheVariants.{Plain, Checked}
 use Rattle.sheet.specs.declared.Lasting.{Lasting}
 use Rattle.sheet.specs.declared.Lasting.TheVariants.{Unstated, Seconds}
 use Rattle.sheet.specs.declared.Part.{Part}
@@ -13,19 +11,22 @@ use Rattle.sheet.specs.declared.Parts.TheVariants.{NoPart, OnePart}
 use Rattle.sheet.specs.declared.CapFacts.{CapFacts}
 use Rattle.sheet.specs.declared.WarnFacts.{WarnFacts}
 use Rattle.codes.specs.Values.{message_text, status_text, scope_text, urgency_text, severity_text, certainty_text}
-use Rattle.sheet.specs.Sheet.{Sheet, cap, warn, wording_of}
+use Rattle.sheet.specs.Sheet.{Sheet, cap, warn}
 
--- [13] "a second wording, opened by "checked cap" or "checked warn""
-abbrev pub opening : Wording → List ℕ
-opening Plain = []
-opening Checked = ascii "checked "
+-- A wording is what opens the sentence and how a duration is said.
+pub record Wording : Type 0 where
+  pub opening : List ℕ
+  pub period : ℕ → List ℕ
 
--- how a number of seconds is said
-module _ (period : ℕ → List ℕ) where
+-- document 01's
+abbrev pub plain : Wording
+plain = record { opening = []; period = lasting }
+
+module _ (w : Wording) where
   -- "cap alert, actual, public, from kiln.example, name A17, part one of one, immediate, extreme, observed, lasts fifteen minutes."
   unfoldable pub lasting_text : Lasting → List ℕ
   lasting_text Unstated = ascii " no stated time"
-  lasting_text (Seconds s) = period s
+  lasting_text (Seconds s) = w.period s
 
   unfoldable pub part_text : Part → List ℕ
   part_text p =
@@ -48,40 +49,38 @@ module _ (period : ℕ → List ℕ) where
       ++ (ascii ", name " ++ (name
       ++ (parts_text f.parts ++ ascii ".\n"))))))))))
 
--- "After "warn alert" come the set flags in bit order."
-unfoldable pub flag : Bool → List ℕ → List ℕ
-flag b text = cond b text []
+  -- "After "warn alert" come the set flags in bit order."
+  unfoldable pub flag : Bool → List ℕ → List ℕ
+  flag b text = cond b text []
 
-unfoldable pub flags_text : WarnFacts → List ℕ
-flags_text x =
-    flag x.urgent (ascii " urgent") ++ (flag x.update (ascii " update")
-    ++ (flag x.cancel (ascii " cancel") ++ flag x.test (ascii " test")))
+  unfoldable pub flags_text : WarnFacts → List ℕ
+  flags_text x =
+      flag x.urgent (ascii " urgent") ++ (flag x.update (ascii " update")
+      ++ (flag x.cancel (ascii " cancel") ++ flag x.test (ascii " test")))
 
--- "warn alert urgent cancel, event seven, number two, origin twenty one, lasts one hour five minutes, hazard one, kind zero, urgency three,
--- severity two, certainty one, response zero."
-unfoldable pub hazard_text : WarnFacts → List ℕ
-hazard_text x =
-    ascii ", hazard" ++ (said x.hazard ++ (ascii ", kind" ++ (said x.kind
-    ++ (ascii ", urgency" ++ (said x.urgency ++ (ascii ", severity" ++ (said x.severity
-    ++ (ascii ", certainty" ++ (said x.certainty ++ (ascii ", response" ++ said x.response))))))))))
-
-module _ (period : ℕ → List ℕ) where
+  -- "warn alert urgent cancel, event seven, number two, origin twenty one, lasts one hour five minutes, hazard one, kind zero, urgency three,
+  -- severity two, certainty one, response zero."
   unfoldable pub origin_text : WarnFacts → List ℕ
   origin_text x =
       ascii ", event" ++ (said x.event ++ (ascii ", number" ++ (said x.number
-      ++ (ascii ", origin" ++ (said x.origin ++ (ascii ", lasts" ++ period x.lasting))))))
+      ++ (ascii ", origin" ++ (said x.origin ++ (ascii ", lasts" ++ w.period x.lasting))))))
+
+  unfoldable pub hazard_text : WarnFacts → List ℕ
+  hazard_text x =
+      ascii ", hazard" ++ (said x.hazard ++ (ascii ", kind" ++ (said x.kind
+      ++ (ascii ", urgency" ++ (said x.urgency ++ (ascii ", severity" ++ (said x.severity
+      ++ (ascii ", certainty" ++ (said x.certainty ++ (ascii ", response" ++ said x.response))))))))))
 
   unfoldable pub warn_text : WarnFacts → List ℕ
   warn_text x = ascii "warn alert" ++ (flags_text x ++ (origin_text x ++ (hazard_text x ++ ascii ".\n")))
 
-  -- a sheet's sentence with its durations said so, its newline included
-  unfoldable pub sentence_with : Sheet → List ℕ
-  sentence_with (cap f sender name) = opening f.wording ++ cap_text period f sender name
-  sentence_with (warn x) = opening x.wording ++ warn_text x
+  unfoldable pub sentence_in : Sheet → List ℕ
+  sentence_in (cap f sender name) = w.opening ++ cap_text f sender name
+  sentence_in (warn x) = w.opening ++ warn_text x
 
--- a sheet's sentence
+-- a sheet's sentence in document 01's wording, its newline included
 unfoldable pub sentence : Sheet → List ℕ
-sentence x = sentence_with (lasting (wording_of x)) x
+sentence x = sentence_in plain x
 
 -- "Read-backs are ASCII but for sender and name."
 unfoldable pub all_ascii : List ℕ → Bool
@@ -95,4 +94,4 @@ IsAsciiBut (warn x) = all_ascii (sentence (warn x)) ≡ true
 
 -- the length of the longest sentence of a sheet in range, its newline included (proofs/Lengths.antt: `sentence_le`, `longest_reached`)
 abbrev pub longest : ℕ
-longest = 723
+longest = 651

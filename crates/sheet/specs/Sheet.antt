@@ -3,7 +3,6 @@ use Rattle.std.specs.Prelude.{Bool, true, false, not, ◌&&◌, ◌||◌, List, 
 use Prim.Native.Char.{code}
 use Rattle.text.specs.Ascii.{ascii}
 use Rattle.text.specs.Parts.{starts_with}
-use Rattle.words.specs.declared.Wording.{Wording}
 use Rattle.words.specs.Duration.{is_lasting}
 use Rattle.sheet.specs.declared.Lasting.{Lasting}
 use Rattle.sheet.specs.declared.Lasting.TheVariants.{Unstated, Seconds}
@@ -16,38 +15,6 @@ use Rattle.sheet.specs.declared.WarnFacts.{WarnFacts}
 pub data Sheet : Type 0 where
   cap : CapFacts → List ℕ → List ℕ → Sheet
   warn : WarnFacts → Sheet
-
--- [13] "the wording being one of the facts"
-abbrev pub wording_of : Sheet → Wording
-wording_of (cap f sender name) = f.wording
-wording_of (warn x) = x.wording
-
--- [13] "the caller may set the other": the same facts in a wording
-abbrev pub cap_worded : Wording → CapFacts → CapFacts
-cap_worded w f = record { wording = w; message = f.message; status = f.status; scope = f.scope; parts = f.parts }
-
-abbrev pub warn_worded : Wording → WarnFacts → WarnFacts
-warn_worded w x = record {
-  wording = w;
-  urgent = x.urgent;
-  update = x.update;
-  cancel = x.cancel;
-  test = x.test;
-  event = x.event;
-  number = x.number;
-  origin = x.origin;
-  lasting = x.lasting;
-  hazard = x.hazard;
-  kind = x.kind;
-  urgency = x.urgency;
-  severity = x.severity;
-  certainty = x.certainty;
-  response = x.response;
-}
-
-abbrev pub worded : Wording → Sheet → Sheet
-worded w (cap f sender name) = cap (cap_worded w f) sender name
-worded w (warn x) = warn (warn_worded w x)
 
 -- ---- "Sender and identifier: 1 to 128 bytes above 0x20, without comma, "<" and "&""; "sender and name also hold no "]]>""
 

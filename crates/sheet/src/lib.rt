@@ -1,11 +1,9 @@
 // Fact sheets: what a sentence says, as values. The definitions of the sentence and of reading it are in specs/, the laws in proofs/;
 // the functions that write and read sentences are in the crates readback and reader.
 ghost use Rattle.std.specs.Prelude.{◌≡◌};
-ghost use Rattle.sheet.specs.Sheet.{cap_worded, warn_worded};
 ghost use Rattle.sheet.specs.Reading.{span_in};
 
 use codes::{Certainty, MessageType, Scope, Severity, Status, Urgency};
-use words::Wording;
 
 pub mod ranges; // ranges.rt: the ranges of a sheet's facts
 
@@ -37,7 +35,6 @@ pub enum Parts {
 // The facts of a CAP sheet but its sender and name, which are bytes beside it.
 #[derive(Drop)]
 pub struct CapFacts {
-    pub wording: Wording,
     pub message: MessageType,
     pub status: Status,
     pub scope: Scope,
@@ -47,7 +44,6 @@ pub struct CapFacts {
 // The facts of a WARN sheet.
 #[derive(Drop)]
 pub struct WarnFacts {
-    pub wording: Wording,
     pub urgent: bool,
     pub update: bool,
     pub cancel: bool,
@@ -101,46 +97,6 @@ pub enum ReadBack {
     Sheet(usize, Found),
     NotReadBack(usize),
     NotThere,
-}
-
-// The facts of a CAP sheet in a wording.
-pub fn cap_worded(facts: CapFacts, wording: Wording) -> CapFacts
-    ensures { result ≡ cap_worded wording facts }
-{
-    let message = facts.message;
-    let status = facts.status;
-    let scope = facts.scope;
-    let parts = facts.parts;
-    CapFacts {
-        wording,
-        message,
-        status,
-        scope,
-        parts,
-    }
-}
-
-// The facts of a WARN sheet in a wording.
-pub fn warn_worded(facts: WarnFacts, wording: Wording) -> WarnFacts
-    ensures { result ≡ warn_worded wording facts }
-{
-    WarnFacts {
-        wording: wording,
-        urgent: facts.urgent,
-        update: facts.update,
-        cancel: facts.cancel,
-        test: facts.test,
-        event: facts.event,
-        number: facts.number,
-        origin: facts.origin,
-        lasting: facts.lasting,
-        hazard: facts.hazard,
-        kind: facts.kind,
-        urgency: facts.urgency,
-        severity: facts.severity,
-        certainty: facts.certainty,
-        response: facts.response,
-    }
 }
 
 // The bytes of a part of a text. Past the text's end there are none.

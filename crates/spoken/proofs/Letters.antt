@@ -10,23 +10,26 @@ use lib.Seq.{drop-cons, length-take-le}
 use borrow.Author.Tests.{eq-eqb, ne_eqb}
 use Rattle.text.specs.Parts.{part}
 use Rattle.text.proofs.Runs.{run_le}
-use Rattle.words.specs.Words.{dictionary, unknown}
+use Rattle.words.specs.Words.{dictionary}
 use Rattle.words.specs.Reading.{is_letter, letters, word_at, code_of, index_in}
-use Rattle.spoken.specs.WordAt.{IsWord}
 
-code_none : unknown ≡ code_of []
+code_none : 40 ≡ code_of []
 unfolding code_of index_in dictionary
 code_none = refl
 
 module _ (s : List ℕ) (at : ℕ) where
-  none : word_at (drop at s) ≡ [] → IsWord s at unknown at
+  -- w is the code of the word after the space at an offset, and e the offset after the word if it has a code
+  abbrev pub IsWord : ℕ → ℕ → Type 0
+  IsWord w e = (w ≡ code_of (word_at (drop at s))) × (w < 40 → e ≡ at + (1 + length (word_at (drop at s))))
+
+  none : word_at (drop at s) ≡ [] → IsWord 40 at
   none q = (rw q code_none, λ h. absurd (omega arith))
 
-  pub word_past : length s ≤ at → IsWord s at unknown at
+  pub word_past : length s ≤ at → IsWord 40 at
   unfolding word_at
   word_past h = none (rw (drop_of_length-le s h))
 
-  pub word_no_space : at < length s → (get_or s at 0 ≡ code " " → ⊥) → IsWord s at unknown at
+  pub word_no_space : at < length s → (get_or s at 0 ≡ code " " → ⊥) → IsWord 40 at
   unfolding word_at
   word_no_space h n = none (rw (drop-cons s at 0 h, ne_eqb (get_or s at 0) (code " ") n))
 
@@ -41,7 +44,7 @@ module _ (s : List ℕ) (at : ℕ) where
       → e ≡ at + 1 + letters (drop (at + 1) s)
       → t ≡ part s (at + 1) e
       → w ≡ code_of t
-      → IsWord s at w e
+      → IsWord w e
   word_there e w t h b q p r =
       let l = drop (at + 1) s in
       let k : e - (at + 1) ≡ letters l = omega arith in

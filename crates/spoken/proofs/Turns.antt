@@ -10,11 +10,11 @@ use lib.Seq.{drop-drop}
 use borrow.Author.Tests.{lt-ltb, le-ltb, eq-eqb, ne_eqb}
 use Rattle.words.specs.declared.Groups.{Groups}
 use Rattle.words.specs.declared.Quantity.{Quantity}
-use Rattle.words.specs.Duration.{day, as_word}
+use Rattle.words.specs.Duration.{day}
 use Rattle.words.specs.Reading.{word_at, code_of, kept, is_number_word, step, total, number_words, number_at}
-use Rattle.words.specs.Reading.{unit_seconds, digits_length, count_of, unit_start, unit_word, count_length, counts}
+use Rattle.words.specs.Reading.{unit_seconds, count_of, unit_word, count_length, counts}
 use Rattle.words.proofs.Steps.{number_word_within, number_on, number_stop, unit_range, count_within, counts_on, counts_stop, number_at_shift}
-use Rattle.spoken.specs.WordAt.{IsWord}
+use Rattle.spoken.proofs.Letters.{IsWord}
 
 -- what is read from the offset i of s on
 abbrev pub number_from : List ℕ → ℕ → Groups → Quantity
@@ -55,20 +55,6 @@ module _ (s : List ℕ) (i w e : ℕ) (q : IsWord s i w e) where
 
 -- ---- a duration
 
--- after a number: the word at an offset, and the digits that follow it where it is "as"
-module _ (s : List ℕ) (i w e : ℕ) (q : IsWord s i w e) where
-  pub no_digits : (w ≡ as_word → ⊥) → i + digits_length (drop i s) ≡ i
-  unfolding digits_length
-  no_digits h = rw (ne_eqb (code_of (word_at (drop i s))) as_word (rw q.0 at h)) (omega arith)
-
-  pub digits_end : (h : Quantity) → w ≡ as_word → h ≡ number_at e (drop e s) → i + digits_length (drop i s) ≡ h.end
-  unfolding digits_length
-  digits_end h c a =
-      let k = 1 + length (word_at (drop i s)) in
-      let p : e ≡ i + k = q.1 (omega arith) in
-      let n = ap (λ (x : Quantity). x.end) (a ∙ number_at_shift e (drop e s)) in
-      rw (eq-eqb (code_of (word_at (drop i s))) as_word (sym q.0 ∙ c), drop-drop k i s, ← p) (omega arith)
-
 counts_move :
     (s : List ℕ) (i k j v v' : ℕ)
     → j ≡ i + k
@@ -76,21 +62,15 @@ counts_move :
     → counts (length (drop k (drop i s))) (i + k) (drop k (drop i s)) v ≡ counts_from s j v'
 counts_move s i k j v v' p q = rw (p, q, drop-drop k i s)
 
--- h: the number that is read; w, e and u: the code of its unit's word, the offset after that, and its seconds
-module _
-    (s : List ℕ) (i : ℕ) (h : Quantity) (a : h ≡ number_at i (drop i s))
-    (w e u : ℕ) (q : IsWord s (h.end + digits_length (drop h.end s)) w e) (t : u ≡ unit_seconds w) where
+-- h: the number that is read; w, e and u: the code of the word after it, the offset after that, and its seconds
+module _ (s : List ℕ) (i : ℕ) (h : Quantity) (a : h ≡ number_at i (drop i s)) (w e u : ℕ) (q : IsWord s h.end w e) (t : u ≡ unit_seconds w) where
   shifted : h ≡ record { value = count_of (drop i s); end = i + (number_at 0 (drop i s)).end }
   shifted = a ∙ number_at_shift i (drop i s)
 
-  unit_start_lem : h.end + digits_length (drop h.end s) ≡ i + unit_start (drop i s)
-  unit_start_lem =
-      let n = (number_at 0 (drop i s)).end in
-      let f : h.end ≡ i + n = ap (λ (x : Quantity). x.end) shifted in
-      rw (f, ← drop-drop n i s) (omega arith)
-
-  unit_at : word_at (drop (h.end + digits_length (drop h.end s)) s) ≡ unit_word (drop i s)
-  unit_at = rw (unit_start_lem, ← drop-drop (unit_start (drop i s)) i s)
+  unit_at : word_at (drop h.end s) ≡ unit_word (drop i s)
+  unit_at =
+      ap (λ (x : Quantity). word_at (drop x.end s)) shifted
+      ∙ ap word_at (sym (drop-drop (number_at 0 (drop i s)).end i s))
 
   unit_seconds_lem : u ≡ unit_seconds (code_of (unit_word (drop i s)))
   unit_seconds_lem = t ∙ ap unit_seconds (q.0 ∙ ap code_of unit_at)
@@ -102,7 +82,8 @@ module _
   count_size z =
       let k = (unit_range w (ap (λ (x : ℕ). eqb x 0) (sym t) ∙ ne_eqb u 0 z)).1 in
       let n = ap length unit_at in
-      q.1 (omega arith) ∙ omega (arith, unit_start_lem)
+      let f = ap (λ (x : Quantity). x.end) shifted in
+      q.1 k ∙ omega arith
 
   -- one count more
   pub counts_next : (c v : ℕ) → (u ≡ 0 → ⊥) → v ≡ kept (c + h.value * u) → counts_from s i c ≡ counts_from s e v

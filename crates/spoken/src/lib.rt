@@ -2,7 +2,6 @@
 pub mod number; // number.rt: numbers in words
 pub mod duration; // duration.rt: durations in words
 mod dictionary; // dictionary.rt: the words and their codes
-mod digits; // digits.rt: the decimal digits of a number in words
 mod reading; // reading.rt: numbers and durations out of their words
 
 ghost use Rattle.std.specs.Prelude.{◌≡◌, drop};
@@ -16,13 +15,13 @@ use crate::number::put_number;
 use crate::reading::{duration_at, number_at};
 use buffer::{WriteText, write_text};
 use text::{first, skip};
-use words::{Quantity, Wording};
+use words::Quantity;
 
 // The longest number's words, each after a space.
 const LONGEST_NUMBER: usize = 115;
 
-// Room for any duration in either wording.
-const LONGEST_DURATION: usize = 222;
+// The longest duration's.
+const LONGEST_DURATION: usize = 116;
 
 // Writes a number in words from start on.
 pub fn write_number(buffer: &mut [u8], start: usize, n: u32) -> WriteText
@@ -33,12 +32,12 @@ pub fn write_number(buffer: &mut [u8], start: usize, n: u32) -> WriteText
     write_text(buffer, start, skip(first(&own, k), 1))
 }
 
-// Writes a number of seconds in words, in either wording, from start on: nothing for 0 seconds.
-pub fn write_duration(buffer: &mut [u8], start: usize, wording: Wording, seconds: u32) -> WriteText
-    ensures { (text_answer result ≡ write_text buffer.old start (duration wording seconds)) × (buffer.new ≡ after_text buffer.old start (duration wording seconds)) }
+// Writes a number of seconds in words from start on: nothing for 0 seconds.
+pub fn write_duration(buffer: &mut [u8], start: usize, seconds: u32) -> WriteText
+    ensures { (text_answer result ≡ write_text buffer.old start (duration seconds)) × (buffer.new ≡ after_text buffer.old start (duration seconds)) }
 {
     let mut own = [0u8; LONGEST_DURATION];
-    let k = put_duration(&mut own, 0, wording, seconds);
+    let k = put_duration(&mut own, 0, seconds);
     write_text(buffer, start, skip(first(&own, k), 1))
 }
 

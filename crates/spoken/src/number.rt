@@ -1,7 +1,7 @@
 // Numbers in words, each word after a space.
 ghost use Rattle.std.specs.Prelude.{◌<◌};
 ghost use Rattle.buffer.specs.Cursor.{Put};
-ghost use Rattle.words.specs.Words.{unknown, spaced, ones, below_hundred, below_thousand, group, said};
+ghost use Rattle.words.specs.Words.{spaced, ones, below_hundred, below_thousand, group, said};
 
 use crate::dictionary::{BILLION, HUNDRED, MILLION, TENS, THOUSAND, put_word};
 
@@ -43,7 +43,7 @@ fn put_below_thousand(dst: &mut [u8], at: usize, n: usize) -> usize
 
 // A thousands group with its word; nothing where it is empty.
 fn put_group(dst: &mut [u8], at: usize, count: usize, unit: usize) -> usize
-    requires { (count < 1_000) × (unit < unknown) }
+    requires { (count < 1_000) × (unit < 40) }
     ensures { Put dst.old at (spaced (group count unit)) dst.new result }
 {
     if count == 0 {

@@ -1,11 +1,8 @@
 // Numbers and durations read from their words.
-ghost use Rattle.std.specs.Prelude.{◌≡◌, ◌+◌, ◌*◌, ◌<◌, drop};
-ghost use Rattle.words.specs.Reading.{is_letter, letters, kept, worth, group_unit, step, total, number_at, unit_seconds, digits_length, duration_at};
-ghost use Rattle.spoken.specs.WordAt.{IsWord};
+ghost use Rattle.std.specs.Prelude.{◌≡◌, ◌+◌, ◌*◌, ◌<◌, length, drop};
+ghost use Rattle.words.specs.Reading.{is_letter, letters, word_at, code_of, kept, worth, group_unit, step, total, number_at, unit_seconds, duration_at};
 
-use crate::dictionary::{
-    AS, DAY, HOUR, HUNDRED, MILLION, MINUTE, SECOND, THOUSAND, UNKNOWN, code_of,
-};
+use crate::dictionary::{DAY, HOUR, HUNDRED, MILLION, MINUTE, SECOND, THOUSAND, UNKNOWN, code_of};
 use text::part;
 use words::{Groups, Quantity};
 
@@ -42,7 +39,7 @@ struct Word {
 
 // The word after the space at an offset.
 fn word_at(s: &[u8], at: usize) -> Word
-    ensures { IsWord s.now at result.code result.end }
+    ensures { (result.code ≡ code_of (word_at (drop at s.now))) × (result.code < 40 → result.end ≡ at + (1 + length (word_at (drop at s.now)))) }
 {
     if s.len() <= at {
         return Word {
@@ -154,7 +151,7 @@ fn unit_seconds(w: usize) -> u32
     if w < SECOND {
         return 60;
     }
-    if w < AS {
+    if w < UNKNOWN {
         return 1;
     }
     0
@@ -167,18 +164,6 @@ fn add_count(sum: u32, n: u32, unit: u32) -> u32
     ((sum as u64 + n as u64 * unit as u64) % LIMIT) as u32
 }
 
-// The word after a number: "as" and the number words after it, which repeat the number, are passed over.
-fn unit_at(s: &[u8], at: usize) -> Word
-    ensures { IsWord s.now (at + digits_length (drop at s.now)) result.code result.end }
-{
-    let w = word_at(s, at);
-    if w.code == AS {
-        let digits = number_at(s, w.end);
-        return word_at(s, digits.end);
-    }
-    w
-}
-
 // Reads as many counts as stand at an offset with a unit after each.
 pub fn duration_at(s: &[u8], at: usize) -> Quantity
     ensures { result ≡ duration_at at (drop at s.now) }
@@ -187,7 +172,7 @@ pub fn duration_at(s: &[u8], at: usize) -> Quantity
     let mut sum = 0;
     loop {
         let n = number_at(s, i);
-        let w = unit_at(s, n.end);
+        let w = word_at(s, n.end);
         let unit = unit_seconds(w.code);
         if unit == 0 {
             return Quantity { value: sum, end: i };

@@ -3,4 +3,3 @@ pub mod Laws
 pub mod Parts
 pub mod Rooms
 pub mod Spelling
-pub mod Decimal

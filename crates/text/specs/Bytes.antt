@@ -1,5 +1,5 @@
 -- Bytes by their kind, and how many of a kind lead a text.
-use Rattle.std.specs.Prelude.{Bool, false, cond, ◌&&◌, ◌||◌, List, [], ◌∷◌, ◌++◌, ℕ, zero, suc, ◌+◌, ◌-◌, ◌*◌, ◌/◌, ◌%◌, eqb, leb, ltb, length, drop}
+use Rattle.std.specs.Prelude.{Bool, false, cond, ◌&&◌, ◌||◌, List, [], ◌∷◌, ℕ, suc, ◌+◌, ◌-◌, ◌*◌, eqb, leb, length, drop}
 use Prim.Native.Char.{code}
 
 -- how many bytes that pass a test lead a text
@@ -43,8 +43,3 @@ number_from n (b ∷ l) = number_from (10 * n + (b - code "0")) l
 -- the number that digits write
 abbrev pub number : List ℕ → ℕ
 number l = number_from 0 l
-
--- a number in decimal without leading zeros, the last k digits at most; `digit` says what stands for each
-unfoldable pub decimal : (digit : ℕ → ℕ) → ℕ → ℕ → List ℕ
-decimal digit zero n = []
-decimal digit (suc k) n = cond (ltb n 10) [] (decimal digit k (n / 10)) ++ (digit (n % 10) ∷ [])

@@ -8,7 +8,6 @@ use coordinates::{Degrees, Inclusion, Pair, Place, Radius};
 use input::Ending;
 use libc::STDOUT_FILENO;
 use time::Time;
-use words::Wording;
 
 // Longitudes around the date line, half way round from it, and at the ends of i32.
 const LONGITUDES: [i32; 16] = [
@@ -90,19 +89,12 @@ fn print_number(text: &[u8]) {
     print_written(&words, end);
 }
 
-// The words of a duration in either wording, after a space: its seconds, and its words written anew in both wordings.
 fn print_duration(text: &[u8]) {
     let quantity = spoken::read_duration(text, 0);
     io::print_decimal(STDOUT_FILENO, quantity.value as u64);
     print(b" ");
-    print_said(Wording::Plain, quantity.value);
-    print(b", ");
-    print_said(Wording::Checked, quantity.value);
-}
-
-fn print_said(wording: Wording, seconds: u32) {
     let mut words = [0u8; 512];
-    let end = spoken::write_duration(&mut words, 0, wording, seconds);
+    let end = spoken::write_duration(&mut words, 0, quantity.value);
     print_written(&words, end);
 }
 

@@ -14,7 +14,6 @@ use Rattle.codes.specs.Values.{message_number, status_number, scope_number}
 use Rattle.sheet.specs.declared.Parts.{Parts}
 use Rattle.sheet.specs.declared.Parts.TheVariants.{NoPart, OnePart}
 use Rattle.sheet.specs.declared.Span.{Span}
-use Rattle.words.specs.declared.Wording.{Wording}
 use Rattle.sheet.specs.declared.Found.{Found}
 use Rattle.sheet.specs.declared.Found.TheVariants as found
 use Rattle.sheet.specs.Sheet.{Sheet, cap, warn, in_range}
@@ -26,7 +25,7 @@ use Rattle.sheet.proofs.WriteOne.{given}
 use Rattle.sheet.proofs.WriteAll.{lifted}
 use Rattle.sheet.proofs.Demand3 as sheets
 use Rattle.parts.specs.Elements.{nowhere}
-use Rattle.numbers.specs.Numbers.{are_cap, are_warn, numbers_sheet, numbers_of_none, numbers_of_part, wording_number, with_parts, cap_numbers, warn_numbers, numbers_of}
+use Rattle.numbers.specs.Numbers.{are_cap, are_warn, numbers_sheet, numbers_of_none, numbers_of_part, with_parts, cap_numbers, warn_numbers, numbers_of}
 use Rattle.numbers.proofs.OneForm.{one_form}
 use Rattle.warnbox.specs.Replies.{reply}
 use Rattle.warnbox.specs.Sentences.{sentence_of, after_sentence, stands_in, standing, handed_in}
@@ -78,22 +77,22 @@ as_call h d at r e c =
 -- ---- what a sheet says, as it is handed in and by itself
 
 said_of : Sheet → Said
-said_of (cap f sender name) = record { facts = take 12 (cap_numbers f nowhere nowhere); sender = sender; name = name }
+said_of (cap f sender name) = record { facts = take 11 (cap_numbers f nowhere nowhere); sender = sender; name = name }
 said_of (warn w) = record { facts = warn_numbers w; sender = []; name = [] }
 
 -- by cases on the part
-module _ (t : List ℕ) (w : Wording) (x : MessageType) (y : Status) (z : Scope) (sender name : Span) where
+module _ (t : List ℕ) (x : MessageType) (y : Status) (z : Scope) (sender name : Span) where
   parts_said :
       (p : Parts)
-      → said_in t (with_parts (wording_number w) (message_number x) (status_number y) (scope_number z) sender name p)
-      ≡ said_of (cap (record { wording = w; message = x; status = y; scope = z; parts = p }) (span_in t sender) (span_in t name))
+      → said_in t (with_parts (message_number x) (status_number y) (scope_number z) sender name p)
+      ≡ said_of (cap (record { message = x; status = y; scope = z; parts = p }) (span_in t sender) (span_in t name))
   unfolding numbers_of_none numbers_of_part said_of
   parts_said NoPart = refl
   parts_said (OnePart p) = refl
 
 numbers_said : (t : List ℕ) (x : Found) → said_in t (numbers_of x) ≡ said_of (sheet_in t x)
 unfolding numbers_of warn_numbers sheet_in said_of
-numbers_said t (found.Cap f sender name) = parts_said t f.wording f.message f.status f.scope sender name f.parts
+numbers_said t (found.Cap f sender name) = parts_said t f.message f.status f.scope sender name f.parts
 numbers_said t (found.Warn w) = refl
 
 -- a sheet that is handed in is the one that its numbers stand for
@@ -115,7 +114,7 @@ module _ (h : Handed) where
       → said h ≡ said_of (sheet_given h.text a)
   unfolding in_range
   given_said (gives x) q e =
-      let form = one_form h.numbers h.sixteen x (numbers_given h.text h.numbers x q) in
+      let form = one_form h.numbers h.fifteen x (numbers_given h.text h.numbers x q) in
       ap (said_in h.text) (sym form) ∙ numbers_said h.text x
   given_said (refuses n p) q e = absurd (false≢true e)
 

@@ -3,7 +3,6 @@
 use Rattle.std.specs.Prelude.{◌≡◌, false, cond, List, [], map, ℕ, zero, suc, eqb, length, take}
 use Rattle.text.specs.Answers.{Answer, gives, refuses}
 use Rattle.text.specs.Parts.{part}
-use Rattle.words.specs.declared.Wording.TheVariants.{Plain}
 use Rattle.sheet.specs.declared.Found.{Found}
 use Rattle.sheet.specs.Sheet.{Sheet, warn}
 use Rattle.sheet.specs.Reading.{span_in, sheet_in}
@@ -12,11 +11,11 @@ use Rattle.numbers.specs.Numbers.{at, sender_from, name_from}
 use Rattle.warnbox.specs.Replies.{reply}
 use Rattle.warnbox.specs.Sentences.{sentence_of, after_sentence, handed_in}
 
--- a sheet as it is handed in: the text that holds its sender and name, and its 16 numbers
+-- a sheet as it is handed in: the text that holds its sender and name, and its 15 numbers
 pub record Handed : Type 0 where
   pub text : List ℕ
   pub numbers : List ℕ
-  pub sixteen : length numbers ≡ 16
+  pub fifteen : length numbers ≡ 15
 
 -- the answer that a number and a value stand for
 abbrev pub answer_of : (number value : ℕ) → Answer ℕ
@@ -37,7 +36,6 @@ abbrev pub no_sheet : Sheet
 no_sheet =
     warn
     (record {
-      wording = Plain;
       urgent = false;
       update = false;
       cancel = false;
@@ -72,7 +70,7 @@ pub record Said : Type 0 where
 abbrev pub said_in : (text numbers : List ℕ) → Said
 said_in t n =
     cond (eqb (at n 0) 1)
-    (record { facts = take 12 n; sender = span_in t (sender_from n); name = span_in t (name_from n) })
+    (record { facts = take 11 n; sender = span_in t (sender_from n); name = span_in t (name_from n) })
     (record { facts = n; sender = []; name = [] })
 
 abbrev pub said : Handed → Said

@@ -49,7 +49,7 @@ pub extern "C" fn warnbox_document_sentence(
 pub extern "C" fn warnbox_document_sheet(
     document: &[u8],
     part: usize,
-    sheet: &mut [u64; 16],
+    sheet: &mut [u64; 15],
     value: &mut usize,
 ) -> u8
     ensures { (result ≡ (reply (giving no_more (cap_sheet part document.now))).number)

@@ -28,5 +28,5 @@ pub extern "C" fn warnbox_refusal_name(
 pub extern "C" fn warnbox_version() -> u32
     ensures { result ≡ version }
 {
-    30_000
+    20_100
 }

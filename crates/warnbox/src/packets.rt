@@ -137,7 +137,7 @@ pub extern "C" fn warnbox_packet_sentence(
 
 // Draws the sheet of a packet, as numbers. A refused packet leaves `sheet` as it was.
 #[unsafe(no_mangle)]
-pub extern "C" fn warnbox_packet_sheet(packet: &[u8], sheet: &mut [u64; 16]) -> u8
+pub extern "C" fn warnbox_packet_sheet(packet: &[u8], sheet: &mut [u64; 15]) -> u8
     ensures { (result ≡ answer_number (packet_sheet packet.now))
         × (sheet.new ≡ given_or sheet.old (giving numbers_of (giving Warn (packet_sheet packet.now)))) }
 {

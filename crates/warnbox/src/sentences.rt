@@ -50,7 +50,7 @@ fn write_found(buffer: &mut [u8], start: usize, text: &[u8], found: Found) -> Re
 }
 
 // Writes the sentence of a sheet that is handed in as numbers.
-fn write_numbers(buffer: &mut [u8], start: usize, text: &[u8], sheet: &[u64; 16]) -> Reply
+fn write_numbers(buffer: &mut [u8], start: usize, text: &[u8], sheet: &[u64; 15]) -> Reply
     ensures { (result ≡ reply (sentence_of buffer.old start text.now (handed_in text.now sheet.now))) × (buffer.new ≡ after_sentence buffer.old start text.now (handed_in text.now sheet.now)) }
 {
     match numbers::numbers_sheet(sheet) {
@@ -65,7 +65,7 @@ pub extern "C" fn warnbox_write(
     buffer: &mut [u8],
     start: usize,
     text: &[u8],
-    sheet: &[u64; 16],
+    sheet: &[u64; 15],
     value: &mut usize,
 ) -> u8
     ensures { (result ≡ (reply (sentence_of buffer.old start text.now (handed_in text.now sheet.now))).number)
@@ -88,7 +88,7 @@ pub extern "C" fn warnbox_count(text: &[u8], value: &mut usize) -> u8
 }
 
 // The numbers that reading back leaves: those of the sheet that was found, or what was there.
-fn numbers_left(read: ReadBack, before: [u64; 16]) -> [u64; 16]
+fn numbers_left(read: ReadBack, before: [u64; 15]) -> [u64; 15]
     ensures { result ≡ numbers_read before (read_answer read) }
 {
     match read {
@@ -104,7 +104,7 @@ fn numbers_left(read: ReadBack, before: [u64; 16]) -> [u64; 16]
 pub extern "C" fn warnbox_read_back(
     text: &[u8],
     k: usize,
-    sheet: &mut [u64; 16],
+    sheet: &mut [u64; 15],
     value: &mut usize,
 ) -> u8
     ensures { (result ≡ (reply (giving count_of (read_back text.now k))).number)

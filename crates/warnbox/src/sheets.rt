@@ -44,7 +44,7 @@ pub fn from_packet(sheet: PacketSheet) -> Drawn
 }
 
 // The numbers that drawing a sheet leaves: its own, or what was there.
-pub fn numbers_left(drawn: Drawn, before: [u64; 16]) -> [u64; 16]
+pub fn numbers_left(drawn: Drawn, before: [u64; 15]) -> [u64; 15]
     ensures { result ≡ given_or before (giving numbers_of (drawn_answer drawn)) }
 {
     match drawn {

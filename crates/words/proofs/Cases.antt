@@ -5,9 +5,8 @@ use Prim.Native.Nat.{ℕ, ◌/◌, ◌%◌, ◌≤◌, ◌<◌}
 use Prim.Native.Char.{code}
 use lib.ListN.{drop}
 use borrow.Author.Tests.{lt-ltb, le-ltb, eq-eqb, ne_eqb}
-use Rattle.words.specs.declared.Wording.{Wording}
 use Rattle.words.specs.Words.{word, spaced, tens, hundred, thousand, million, billion, ones, below_hundred, below_thousand, group, number_codes, said}
-use Rattle.words.specs.Duration.{day, days, hour, hours, minute, minutes, second, seconds, repeated, counted, duration_codes, lasting}
+use Rattle.words.specs.Duration.{day, days, hour, hours, minute, minutes, second, seconds, counted, duration_codes, lasting}
 
 pub spaced_append : (a b : List ℕ) → spaced (a ++ b) ≡ spaced a ++ spaced b
 unfolding spaced
@@ -83,24 +82,23 @@ said_some n h = simp (ne_eqb n 0 h, spaced_append, append_assoc)
 
 -- ---- a duration
 
-module _ (w : Wording) (n one many : ℕ) where
-  pub counted_none : n ≡ 0 → spaced (counted w n one many) ≡ []
-  unfolding counted spaced
-  counted_none h = rw (eq-eqb n 0 h)
+pub counted_none : (n one many : ℕ) → n ≡ 0 → spaced (counted n one many) ≡ []
+unfolding counted spaced
+counted_none n one many h = rw (eq-eqb n 0 h)
 
-  pub counted_one : n ≡ 1 → spaced (counted w n one many) ≡ said n ++ (spaced (repeated w n) ++ spaced (one ∷ []))
-  unfolding counted said
-  counted_one h = rw h (simp spaced_append)
+pub counted_one : (n one many : ℕ) → n ≡ 1 → spaced (counted n one many) ≡ said n ++ spaced (one ∷ [])
+unfolding counted said
+counted_one n one many h = rw h (spaced_append (number_codes 1) (one ∷ []))
 
-  pub counted_many : (n ≡ 0 → ⊥) → (n ≡ 1 → ⊥) → spaced (counted w n one many) ≡ said n ++ (spaced (repeated w n) ++ spaced (many ∷ []))
-  unfolding counted said
-  counted_many h g = rw (ne_eqb n 0 h, ne_eqb n 1 g) (simp spaced_append)
+pub counted_many : (n one many : ℕ) → (n ≡ 0 → ⊥) → (n ≡ 1 → ⊥) → spaced (counted n one many) ≡ said n ++ spaced (many ∷ [])
+unfolding counted said
+counted_many n one many h g = rw (ne_eqb n 0 h, ne_eqb n 1 g) (spaced_append (number_codes n) (many ∷ []))
 
 pub lasting_parts :
-    (w : Wording) (s : ℕ)
-    → lasting w s
-    ≡ ((spaced (counted w (s / 86_400) day days) ++ spaced (counted w (s / 3_600 % 24) hour hours))
-    ++ spaced (counted w (s / 60 % 60) minute minutes))
-    ++ spaced (counted w (s % 60) second seconds)
+    (s : ℕ)
+    → lasting s
+    ≡ ((spaced (counted (s / 86_400) day days) ++ spaced (counted (s / 3_600 % 24) hour hours))
+    ++ spaced (counted (s / 60 % 60) minute minutes))
+    ++ spaced (counted (s % 60) second seconds)
 unfolding lasting duration_codes
-lasting_parts w s = simp (spaced_append, append_assoc)
+lasting_parts s = simp (spaced_append, append_assoc)

@@ -1,20 +1,16 @@
 -- How long what is said can be.
 use mathlib.Core.Path.{◌≡◌, refl}
 use mathlib.Core.Bool.{Bool}
-use mathlib.Core.List.{[], ◌∷◌, ◌++◌}
-use Prim.Native.Nat.{ℕ, zero, suc, ◌+◌, ◌*◌, ◌/◌, ◌%◌, ◌≤◌, ◌<◌}
+use mathlib.Core.List.{[], ◌∷◌}
+use Prim.Native.Nat.{ℕ, ◌+◌, ◌/◌, ◌%◌, ◌≤◌, ◌<◌}
 use native.Mathlib.Omega.{arith}
-use lib.Dec.{T, eqb, leb, ltb}
+use lib.Dec.{eqb, leb}
 use lib.ListN.{length, length-append}
 use borrow.Author.Tests.{leb-true, eqb-true, eqb-false}
-use Rattle.text.specs.Bytes.{decimal}
-use Rattle.text.specs.Logic.{by_test, below, below_at}
-use Rattle.words.specs.declared.Wording.{Wording}
-use Rattle.words.specs.declared.Wording.TheVariants.{Plain, Checked}
-use Rattle.words.specs.Words.{dictionary, word, spaced, hundred, thousand, million, billion, ones, below_hundred, below_thousand, group, number_codes, said, digit_codes}
-use Rattle.words.specs.Duration.{day, days, hour, hours, minute, minutes, second, seconds, repeated, counted, lasting}
-use Rattle.words.proofs.Cases.{spaced_append, thousand_low, thousand_high, group_none, group_some, said_zero, said_some, counted_none, counted_one, counted_many, lasting_parts}
-use Rattle.words.proofs.Digits.{digits_within}
+use Rattle.text.specs.Logic.{by_test, below_at}
+use Rattle.words.specs.Words.{dictionary, word, spaced, hundred, thousand, million, billion, ones, below_hundred, below_thousand, group, number_codes, said}
+use Rattle.words.specs.Duration.{day, days, hour, hours, minute, minutes, second, seconds, counted, lasting}
+use Rattle.words.proofs.Cases.{thousand_low, thousand_high, group_none, group_some, said_zero, said_some, counted_none, counted_one, counted_many, lasting_parts}
 
 -- ---- parts of a number, by tests over all their values
 
@@ -106,82 +102,54 @@ short_le n h =
 
 -- ---- a duration
 
--- n: a count; m: the length of its words, those that repeat it among them
 counted_le :
-    (w : Wording) (n one many m k : ℕ)
-    → length (said n ++ spaced (repeated w n)) ≤ m → length (spaced (one ∷ [])) ≤ k → length (spaced (many ∷ [])) ≤ k
-    → length (spaced (counted w n one many)) ≤ m + k
-counted_le w n one many m k h a b =
-    let l = simp length-append at h in
+    (n one many m k : ℕ)
+    → length (said n) ≤ m → length (spaced (one ∷ [])) ≤ k → length (spaced (many ∷ [])) ≤ k
+    → length (spaced (counted n one many)) ≤ m + k
+counted_le n one many m k h a b =
     by_test (eqb n 0)
-    (λ z. rw (counted_none w n one many (eqb-true n 0 z)) (omega arith))
+    (λ z. rw (counted_none n one many (eqb-true n 0 z)) (omega arith))
     (λ z.
     by_test (eqb n 1)
-    (λ o. rw (counted_one w n one many (eqb-true n 1 o)) (simp length-append (omega arith)))
-    (λ o. rw (counted_many w n one many (eqb-false n 0 z) (eqb-false n 1 o)) (simp length-append (omega arith))))
+    (λ o. rw (counted_one n one many (eqb-true n 1 o)) (simp length-append (omega arith)))
+    (λ o. rw (counted_many n one many (eqb-false n 0 z) (eqb-false n 1 o)) (simp length-append (omega arith))))
 
--- the words of a count fit into m bytes
-count_fits : Wording → ℕ → ℕ → Bool
-unfolding spaced word dictionary ones below_hundred below_thousand group number_codes said decimal digit_codes repeated
-count_fits w m n = leb (length (said n ++ spaced (repeated w n))) m
+-- " twenty three" is as long as any number of hours, minutes or seconds
+sixty_fits : ℕ → Bool
+unfolding spaced word dictionary ones below_hundred below_thousand group number_codes said
+sixty_fits n = leb (length (said n)) 13
 
-count_le : (w : Wording) (m top n : ℕ) → T (below top (count_fits w m)) → n < top → length (said n ++ spaced (repeated w n)) ≤ m
-unfolding count_fits
-count_le w m top n t h = leb-true (length (said n ++ spaced (repeated w n))) m (below_at top (count_fits w m) t n h)
+sixty_le : (n : ℕ) → n < 60 → length (said n) ≤ 13
+unfolding sixty_fits
+sixty_le n h = leb-true (length (said n)) 13 (below_at 60 sixty_fits tt n h)
 
--- by tests over all counts: " twenty three as two three" is as long as any number of hours, " thirty three as three three" as any of minutes or seconds,
--- " three hundred thirty three as three three three" as any of days to 365
-hours_le : (w : Wording) (n : ℕ) → n < 24 → length (said n ++ spaced (repeated w n)) ≤ 26
-unfolding count_fits
-hours_le Plain n h = count_le Plain 26 24 n tt h
-hours_le Checked n h = count_le Checked 26 24 n tt h
+-- " three hundred twenty three" as any number of days to 365
+year_fits : ℕ → Bool
+unfolding spaced word dictionary ones below_hundred below_thousand group number_codes said
+year_fits n = leb (length (said n)) 27
 
-sixty_le : (w : Wording) (n : ℕ) → n < 60 → length (said n ++ spaced (repeated w n)) ≤ 28
-unfolding count_fits
-sixty_le Plain n h = count_le Plain 28 60 n tt h
-sixty_le Checked n h = count_le Checked 28 60 n tt h
+year_le : (n : ℕ) → n < 366 → length (said n) ≤ 27
+unfolding year_fits
+year_le n h = leb-true (length (said n)) 27 (below_at 366 year_fits tt n h)
 
-year_le : (w : Wording) (n : ℕ) → n < 366 → length (said n ++ spaced (repeated w n)) ≤ 48
-unfolding count_fits
-year_le Plain n h = count_le Plain 48 366 n tt h
-year_le Checked n h = count_le Checked 48 366 n tt h
-
--- 109 are " days", " twenty three as two three hours", " thirty three as three three minutes" and " thirty three as three three seconds"
-days_then : (w : Wording) (s k : ℕ) → length (said (s / 86_400) ++ spaced (repeated w (s / 86_400))) ≤ k → length (lasting w s) ≤ k + 109
+-- 66 are " days", " twenty three hours", " twenty three minutes" and " twenty three seconds"
+days_then : (s k : ℕ) → length (said (s / 86_400)) ≤ k → length (lasting s) ≤ k + 66
 unfolding spaced word dictionary
-days_then w s k h =
-    rw (lasting_parts w s)
+days_then s k h =
+    rw (lasting_parts s)
     (simp length-append
     (omega (
       arith,
-      counted_le w (s / 86_400) day days k 5 h (omega arith) (omega arith),
-      counted_le w (s / 3_600 % 24) hour hours 26 6 (hours_le w (s / 3_600 % 24) (omega arith)) (omega arith) (omega arith),
-      counted_le w (s / 60 % 60) minute minutes 28 8 (sixty_le w (s / 60 % 60) (omega arith)) (omega arith) (omega arith),
-      counted_le w (s % 60) second seconds 28 8 (sixty_le w (s % 60) (omega arith)) (omega arith) (omega arith),
+      counted_le (s / 86_400) day days k 5 h (omega arith) (omega arith),
+      counted_le (s / 3_600 % 24) hour hours 13 6 (sixty_le (s / 3_600 % 24) (omega arith)) (omega arith) (omega arith),
+      counted_le (s / 60 % 60) minute minutes 13 8 (sixty_le (s / 60 % 60) (omega arith)) (omega arith) (omega arith),
+      counted_le (s % 60) second seconds 13 8 (sixty_le (s % 60) (omega arith)) (omega arith) (omega arith),
     )))
 
--- ---- any duration: 2^32 seconds have 49,710 days
-
--- a digit is at most " seven"
-digits_le : (k n : ℕ) → length (spaced (digits_within k n)) ≤ 6 * k
-unfolding decimal spaced
-digits_le zero n = omega arith
-digits_le (suc k) n =
-    let d = digit_le (n % 10) (omega arith) in
-    by_test (ltb n 10)
-    (λ e. rw e (omega arith))
-    (λ e. rw (e, spaced_append, length-append) (omega (arith, digits_le k (n / 10))))
-
-repeated_le : (w : Wording) (n : ℕ) → length (spaced (repeated w n)) ≤ 63
-unfolding repeated spaced word dictionary digit_codes
-repeated_le Plain n = omega arith
-repeated_le Checked n = simp length-append (omega (arith, digits_le 10 n))
-
-pub duration_le : (w : Wording) (s : ℕ) → s < 4_294_967_296 → length (lasting w s) ≤ 222
-duration_le w s h =
-    let d = s / 86_400 in
-    days_then w s 113 (simp length-append (omega (arith, short_le d (omega arith), repeated_le w d)))
+-- any duration: 2^32 seconds have 49,710 days
+pub duration_le : (s : ℕ) → s < 4_294_967_296 → length (lasting s) ≤ 116
+duration_le s h = days_then s 50 (short_le (s / 86_400) (omega arith))
 
 -- a lasting time
-pub lasting_le : (w : Wording) (s : ℕ) → s ≤ 31_536_000 → length (lasting w s) ≤ 157
-lasting_le w s h = days_then w s 48 (year_le w (s / 86_400) (omega arith))
+pub lasting_le : (s : ℕ) → s ≤ 31_536_000 → length (lasting s) ≤ 93
+lasting_le s h = days_then s 27 (year_le (s / 86_400) (omega arith))

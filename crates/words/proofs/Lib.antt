@@ -1,9 +1,6 @@
 pub mod Steps
 pub mod Cases
 pub mod Value
-pub mod Digits
 pub mod ReadNumber
 pub mod ReadDuration
 pub mod Lengths
-pub mod Codes
-pub mod Replaced

@@ -13,7 +13,7 @@ use Rattle.text.specs.Ascii.{ascii}
 use Rattle.text.specs.Logic.{by_test, and_left, and_right, clash, below_at}
 use Rattle.words.specs.declared.Groups.{Groups}
 use Rattle.words.specs.declared.Quantity.{Quantity}
-use Rattle.words.specs.Words.{dictionary, word, unknown, spaced, number_codes, said, words}
+use Rattle.words.specs.Words.{dictionary, word, spaced, number_codes, said, words}
 use Rattle.words.specs.Reading.{is_letter, letters, word_at, index_in, code_of, is_number_word, step, nothing, total, number_words, number_at, ends_number}
 use Rattle.words.proofs.Steps.{quantity, code_of_word, number_on, number_stop}
 use Rattle.words.proofs.Cases.{spaced_cons, codes_zero}
@@ -38,9 +38,9 @@ all_letters : ℕ → Bool
 unfolding word dictionary
 all_letters k = eqb (letters (word k)) (length (word k))
 
-pub word_letters : (k : ℕ) → k < unknown → letters (word k) ≡ length (word k)
+pub word_letters : (k : ℕ) → k < 40 → letters (word k) ≡ length (word k)
 unfolding all_letters
-word_letters k h = eqb-true (letters (word k)) (length (word k)) (below_at unknown all_letters tt k h)
+word_letters k h = eqb-true (letters (word k)) (length (word k)) (below_at 40 all_letters tt k h)
 
 pub spaced_no_letter : (ws rest : List ℕ) → letters rest ≡ 0 → letters (spaced ws ++ rest) ≡ 0
 unfolding spaced
@@ -108,11 +108,6 @@ read_spaced (w ∷ ws) i rest g p e =
     (number_word i w (spaced ws ++ rest) g p.0 (spaced_no_letter ws rest (ends_letter rest e))
     ∙ read_spaced ws (i + (1 + length (word w))) rest (step w g) p.1 e
     ∙ ap (quantity (total (steps ws (step w g)))) (simp length-append (omega arith)))
-
--- number words end where they end, whatever they count
-pub read_words : (ws rest : List ℕ) → NumberCodes ws → ends_number rest ≡ true → (number_at 0 (spaced ws ++ rest)).end ≡ length (spaced ws)
-unfolding number_at
-read_words ws rest p e = ap (λ (x : Quantity). x.end) (read_spaced ws 0 rest nothing p e) ∙ omega arith
 
 pub read_said :
     (n i : ℕ) (rest : List ℕ) → n < 4_294_967_296 → ends_number rest ≡ true

@@ -7,12 +7,11 @@ use native.Mathlib.Omega.{arith}
 use lib.Dec.{eqb, ltb}
 use lib.ListN.{length, get_or, drop, length-take, length-drop}
 use borrow.Author.Tests.{ltb-true, ltb-false, eqb-true, le-ltb}
-use Rattle.text.specs.Logic.{by_test, cond_cases, below_at, eql, eql_true}
+use Rattle.text.specs.Logic.{by_test, below_at, eql, eql_true}
 use Rattle.words.specs.declared.Groups.{Groups}
 use Rattle.words.specs.declared.Quantity.{Quantity}
-use Rattle.words.specs.Words.{dictionary, word, unknown}
-use Rattle.words.specs.Duration.{as_word}
-use Rattle.words.specs.Reading.{word_at, index_in, code_of, kept, is_number_word, step, nothing, total, number_words, number_at, unit_seconds, digits_length, count_of, unit_start, unit_word, count_length, counts}
+use Rattle.words.specs.Words.{dictionary, word}
+use Rattle.words.specs.Reading.{word_at, index_in, code_of, kept, is_number_word, step, nothing, total, number_words, number_at, unit_seconds, count_of, unit_word, count_length, counts}
 
 -- ---- the code of a word
 
@@ -39,11 +38,11 @@ index_word (d ∷ ds) i (suc k) w h e =
     (λ t. absurd (omega (arith, rw t at e)))
     (λ t. index_word ds (suc i) k w (omega arith) (omega (arith, rw t at e)))
 
-pub code_le : (w : List ℕ) → code_of w ≤ unknown
+pub code_le : (w : List ℕ) → code_of w ≤ 40
 unfolding code_of dictionary
 code_le w = index_le dictionary 0 w
 
-pub known_word : (w : List ℕ) → code_of w < unknown → w ≡ word (code_of w)
+pub known_word : (w : List ℕ) → code_of w < 40 → w ≡ word (code_of w)
 unfolding code_of word dictionary
 known_word w h = index_word dictionary 0 (index_in dictionary 0 w) w h (omega arith)
 
@@ -51,12 +50,12 @@ own_code : ℕ → Bool
 unfolding code_of index_in word dictionary
 own_code k = eqb (code_of (word k)) k
 
-pub code_of_word : (k : ℕ) → k < unknown → code_of (word k) ≡ k
+pub code_of_word : (k : ℕ) → k < 40 → code_of (word k) ≡ k
 unfolding own_code
-code_of_word k h = eqb-true (code_of (word k)) k (below_at unknown own_code tt k h)
+code_of_word k h = eqb-true (code_of (word k)) k (below_at 40 own_code tt k h)
 
 -- a word of the dictionary has a letter
-pub word_letter : (w : List ℕ) → code_of w < unknown → 0 < length w
+pub word_letter : (w : List ℕ) → code_of w < 40 → 0 < length w
 unfolding code_of index_in dictionary
 word_letter [] h = absurd (omega arith)
 word_letter (b ∷ w) h = omega arith
@@ -77,7 +76,7 @@ unit_range u e = (
         (rw (le-ltb u 32 (omega arith), le-ltb u 34 (omega arith), le-ltb u 36 (omega arith), le-ltb u 38 (omega arith), le-ltb u 40 h) at e)
 
 unit_letter : (w : List ℕ) → eqb (unit_seconds (code_of w)) 0 ≡ false → 0 < length w
-unit_letter w e = word_letter w (omega (arith, (unit_range (code_of w) e).1))
+unit_letter w e = word_letter w (unit_range (code_of w) e).1
 
 -- a word and its space lie within the text
 pub word_within : (l : List ℕ) → 0 < length (word_at l) → 1 + length (word_at l) ≤ length l
@@ -166,31 +165,14 @@ pub number_at_shift : (i : ℕ) (l : List ℕ) → number_at i l ≡ quantity (n
 unfolding number_at
 number_at_shift i l = number_shift (length l) i l nothing
 
-number_at_within : (l : List ℕ) → (number_at 0 l).end ≤ length l
-unfolding number_at
-number_at_within l = omega (arith, number_within (length l) 0 l nothing)
-
 -- ---- one turn of the duration loop
-
--- "as" and the words after it lie within the text
-pub digits_within_lem : (l : List ℕ) → digits_length l ≤ length l
-unfolding digits_length
-digits_within_lem l =
-    let k = 1 + length (word_at l) in
-    cond_cases (λ (x : ℕ). x ≤ length l) (eqb (code_of (word_at l)) as_word) (k + (number_at 0 (drop k l)).end) 0
-    (λ e.
-    let c = eqb-true (code_of (word_at l)) as_word e in
-    let h = word_within l (word_letter (word_at l) (omega arith)) in
-    let n = simp length-drop at (number_at_within (drop k l)) in
-    omega arith)
-    (λ e. omega arith)
 
 -- a count and its unit lie within the text
 pub count_within : (l : List ℕ) → eqb (unit_seconds (code_of (unit_word l))) 0 ≡ false → count_length l ≤ length l
+unfolding number_at
 count_within l e =
-    let h = simp length-drop at (word_within (drop (unit_start l) l) (unit_letter (unit_word l) e)) in
-    let d = simp length-drop at (digits_within_lem (drop (number_at 0 l).end l)) in
-    omega (arith, number_at_within l)
+    let h = simp length-drop at (word_within (drop (number_at 0 l).end l) (unit_letter (unit_word l) e)) in
+    omega (arith, number_within (length l) 0 l nothing)
 
 pub counts_enough : (n m i : ℕ) (l : List ℕ) (s : ℕ) → length l ≤ n → length l ≤ m → counts n i l s ≡ counts m i l s
 unfolding counts

@@ -130,20 +130,15 @@ total_steps n h =
     (λ e. total_zero n (eqb-true n 0 e))
     (λ e. ap total (steps_some n h (eqb-false n 0 e)) ∙ omega arith)
 
--- ---- every code is below a bound
-
-abbrev pub AllBelow : ℕ → List ℕ → Type 0
-AllBelow m [] = Unit {0}
-AllBelow m (n ∷ ns) = (n < m) × AllBelow m ns
-
-pub both_below : (m : ℕ) (xs ys : List ℕ) → AllBelow m xs → AllBelow m ys → AllBelow m (xs ++ ys)
-both_below m [] ys p q = q
-both_below m (x ∷ xs) ys p q = (p.0, both_below m xs ys p.1 q)
-
 -- ---- every code is that of a number word
 
 abbrev pub NumberCodes : List ℕ → Type 0
-NumberCodes ws = AllBelow 32 ws
+NumberCodes [] = Unit {0}
+NumberCodes (w ∷ ws) = (w < 32) × NumberCodes ws
+
+both_codes : (xs ys : List ℕ) → NumberCodes xs → NumberCodes ys → NumberCodes (xs ++ ys)
+both_codes [] ys p q = q
+both_codes (x ∷ xs) ys p q = (p.0, both_codes xs ys p.1 q)
 
 ones_codes : (n : ℕ) → n < 20 → NumberCodes (ones n)
 unfolding ones
@@ -159,7 +154,7 @@ hundred_codes n h =
 thousand_codes : (n : ℕ) → n < 1_000 → NumberCodes (below_thousand n)
 unfolding below_thousand
 thousand_codes n h =
-    both_below 32 (cond (eqb (n / 100) 0) [] (n / 100 ∷ hundred ∷ [])) (below_hundred (n % 100))
+    both_codes (cond (eqb (n / 100) 0) [] (n / 100 ∷ hundred ∷ [])) (below_hundred (n % 100))
     (cond_cases NumberCodes (eqb (n / 100) 0) [] (n / 100 ∷ hundred ∷ []) (λ e. tt) (λ e. (omega arith, (omega arith, tt))))
     (hundred_codes (n % 100) (omega arith))
 
@@ -168,7 +163,7 @@ unfolding group
 group_codes n u h l =
     cond_cases NumberCodes (eqb n 0) [] (below_thousand n ++ (u ∷ []))
     (λ e. tt)
-    (λ e. both_below 32 (below_thousand n) (u ∷ []) (thousand_codes n h) (l, tt))
+    (λ e. both_codes (below_thousand n) (u ∷ []) (thousand_codes n h) (l, tt))
 
 pub number_codes_lem : (n : ℕ) → n < 4_294_967_296 → NumberCodes (number_codes n)
 unfolding number_codes
@@ -180,6 +175,6 @@ number_codes_lem n h =
     cond_cases NumberCodes (eqb n 0) (0 ∷ []) (b ++ (m ++ (k ++ u)))
     (λ e. (omega arith, tt))
     (λ e.
-    both_below 32 b (m ++ (k ++ u)) (group_codes (n / 1_000_000_000) billion (omega arith) (omega arith))
-    (both_below 32 m (k ++ u) (group_codes (n / 1_000_000 % 1_000) million (omega arith) (omega arith))
-    (both_below 32 k u (group_codes (n / 1_000 % 1_000) thousand (omega arith) (omega arith)) (thousand_codes (n % 1_000) (omega arith)))))
+    both_codes b (m ++ (k ++ u)) (group_codes (n / 1_000_000_000) billion (omega arith) (omega arith))
+    (both_codes m (k ++ u) (group_codes (n / 1_000_000 % 1_000) million (omega arith) (omega arith))
+    (both_codes k u (group_codes (n / 1_000 % 1_000) thousand (omega arith) (omega arith)) (thousand_codes (n % 1_000) (omega arith)))))

@@ -1,5 +1,4 @@
 pub mod Words
 pub mod Duration
 pub mod Reading
-pub mod Replaced
 pub mod Samples

@@ -8,7 +8,7 @@ use Rattle.text.specs.Logic.{eql}
 use Rattle.words.specs.declared.Groups.{Groups}
 use Rattle.words.specs.declared.Quantity.{Quantity}
 use Rattle.words.specs.Words.{dictionary, hundred, thousand, million}
-use Rattle.words.specs.Duration.{day, hour, minute, second, as_word}
+use Rattle.words.specs.Duration.{day, hour, minute, second}
 
 -- ---- a word and its code
 
@@ -29,7 +29,7 @@ unfoldable pub index_in : List (List ℕ) → ℕ → List ℕ → ℕ
 index_in [] i w = i
 index_in (d ∷ ds) i w = cond (eql w d) i (index_in ds (suc i) w)
 
--- the code of a word; `unknown` for any other
+-- the code of a word; 40, the number of the words, for any other
 unfoldable pub code_of : List ℕ → ℕ
 code_of w = index_in dictionary 0 w
 
@@ -90,24 +90,17 @@ unit_seconds w =
     (cond (ltb w second) 60
     (cond (ltb w 40) 1 0))))
 
--- how many bytes "as" and the number words after it take where they lead a text: these words aren't looked at
-unfoldable pub digits_length : List ℕ → ℕ
-digits_length l = cond (eqb (code_of (word_at l)) as_word) (1 + length (word_at l) + (number_at 0 (drop (1 + length (word_at l)) l)).end) 0
-
--- the number that leads a text, where its unit starts, the unit's word, and the length of all
+-- the number that leads a text, the word after it, and the length of both
 abbrev pub count_of : List ℕ → ℕ
 count_of l = (number_at 0 l).value
 
-abbrev pub unit_start : List ℕ → ℕ
-unit_start l = (number_at 0 l).end + digits_length (drop (number_at 0 l).end l)
-
 abbrev pub unit_word : List ℕ → List ℕ
-unit_word l = word_at (drop (unit_start l) l)
+unit_word l = word_at (drop (number_at 0 l).end l)
 
 abbrev pub count_length : List ℕ → ℕ
-count_length l = unit_start l + (1 + length (unit_word l))
+count_length l = (number_at 0 l).end + (1 + length (unit_word l))
 
--- the seconds whose words lead the text l, at offset i, in either wording: as many counts as have a unit after them. s: those before; n bounds their number.
+-- the seconds whose words lead the text l, at offset i: as many counts as have a unit after them. s: those before; n bounds their number.
 unfoldable pub counts : ℕ → ℕ → List ℕ → ℕ → Quantity
 counts zero i l s = record { value = s; end = i }
 counts (suc n) i l s =

@@ -2,7 +2,6 @@
 use Rattle.std.specs.Prelude.{cond, List, [], ◌∷◌, ◌++◌, ℕ, ◌+◌, ◌/◌, ◌%◌, eqb, ltb, get_or, drop}
 use Prim.Native.Char.{code}
 use Rattle.text.specs.Ascii.{ascii}
-use Rattle.text.specs.Bytes.{decimal}
 
 -- ---- the words, and their codes: their indices in this list
 
@@ -17,12 +16,7 @@ dictionary =
     ascii "hundred" ∷ ascii "thousand" ∷ ascii "million" ∷ ascii "billion" ∷
     ascii "day" ∷ ascii "days" ∷ ascii "hour" ∷ ascii "hours" ∷
     ascii "minute" ∷ ascii "minutes" ∷ ascii "second" ∷ ascii "seconds" ∷
-    ascii "as" ∷
     []
-
--- the number of the words: the code of any other text
-abbrev pub unknown : ℕ
-unknown = 41
 
 unfoldable pub word : ℕ → List ℕ
 word w = get_or dictionary w []
@@ -83,9 +77,3 @@ said n = spaced (number_codes n)
 -- a number in words by itself
 unfoldable pub words : ℕ → List ℕ
 words n = drop 1 (said n)
-
--- ---- the decimal digits of a number, first the highest: a digit's code is its value
-
--- ten are enough for 4,294,967,295
-unfoldable pub digit_codes : ℕ → List ℕ
-digit_codes n = decimal (λ d. d) 10 n

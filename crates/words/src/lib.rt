@@ -1,12 +1,5 @@
-// Numbers and durations in English words: the wordings of a duration, and the types that reading answers. The definitions are in specs/, the laws in
+// Numbers and durations in English words: the types that reading them answers. The definitions are in specs/, the laws in
 // proofs/; the functions that write and read words are in the crate spoken.
-
-// How a duration is said: as document 01 does, or with each number said twice, in words and then digit by digit (request [13]).
-#[derive(Drop)]
-pub enum Wording {
-    Plain,
-    Checked,
-}
 
 // A number as far as its words were read: the sum of the thousands groups that are complete, and the current group.
 #[derive(Drop)]

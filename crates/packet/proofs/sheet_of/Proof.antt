@@ -1,6 +1,5 @@
 -- `sheet_of` meets its contract: each fact is a field, and the lasting time fits 32 bits.
 use borrow.Author.Rules.{rules}
-use Rattle.words.specs.declared.Wording.TheVariants.{Plain}
 use Rattle.packet.specs.Packet.{sheet_of_fields}
 use Rattle.packet.proofs.Acceptance.{lasting_fits}
 use Rattle.packet.proofs.sheet_of.Statement.{statement}
@@ -10,7 +9,6 @@ returns : tie.Need-returns
 unfolding sheet_of_fields
 returns c = let f = c.before.args.f in
     λ i. record {
-      wording = Plain;
       urgent = f.urgent;
       update = f.update;
       cancel = f.cancel;

@@ -9,5 +9,5 @@ use Rattle.packet_sentence.proofs.print_sentence.Tie as tie
 pub print_sentence_spec : {M : Type 1} → statement M
 print_sentence_spec =
     tie.close
-    (tie.spec (λ c. search rules) (λ c κs. search rules) (λ c κs. search rules) (λ c. search rules) (λ c. search rules) (λ c. search rules)
+    (tie.spec (λ c. search rules) (λ c κs. search rules) (λ c. search rules) (λ c. search rules) (λ c. search rules)
     (λ c. sym (length-take-le _ _ (omega arith))) (λ c κs. search rules) (λ c. search rules) (λ c. search rules))

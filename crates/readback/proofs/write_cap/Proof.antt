@@ -5,6 +5,7 @@ use native.Mathlib.Omega.{arith}
 use borrow.Author.Tests.{not-true, not-false}
 use borrow.Author.Rules.{rules}
 use Rattle.sheet.specs.Sheet.{cap, in_range}
+use Rattle.sheet.specs.Sentence.{sentence_in, sentence}
 use Rattle.sheet.proofs.Lengths.{sentence_le}
 use Rattle.sheet.proofs.WriteOne.{refuse_range, refuse_room}
 use Rattle.readback.proofs.Answer.{answer_end, has_room, lacks_room}
@@ -18,15 +19,18 @@ in-range :
 in-range e = sym e.before.is-cap.ensures ∙ not-false _ e.if1.false
 
 room-requires : tie.Need-cap-has-room-requires
+unfolding sentence sentence_in
 room-requires c κs = sentence_le (cap _ _ _) (in-range c.before)
 
 returns-3 : tie.Need-returns-3
+unfolding sentence sentence_in
 returns-3 c =
     let e = c.before.before in
     let r = lacks_room _ _ _ e.if2.false (sym c.before.cap-has-room.ensures ∙ not-true _ c.if3.true) in
     refuse_room _ _ (cap _ _ _) (in-range e.before) r
 
 returns-4 : tie.Need-returns-4
+unfolding sentence sentence_in
 returns-4 c =
     let t = c.before.before.before.before in
     let e = t.before.before in

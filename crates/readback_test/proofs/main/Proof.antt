@@ -11,4 +11,4 @@ main_spec =
     tie.close
     (tie.spec (λ c. search rules) (λ c κs. search rules) (λ c. search rules) (λ c κs. search rules) (λ c. search rules) (λ c κs. search rules)
     (λ c. search rules) (λ c. sym (length-take-le _ c.before.before.before.before.before.before.before.write-list.new.0 (omega arith)))
-    (λ c κs. search rules) (λ c κs. search rules) (λ c κs. search rules) (λ c κs. search rules) (λ c. search rules))
+    (λ c κs. search rules) (λ c κs. search rules) (λ c. search rules))

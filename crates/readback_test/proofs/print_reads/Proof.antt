@@ -1,4 +1,4 @@
--- `readback_test::print_reads` is safe and ends: it ends at the eighteenth.
+-- `readback_test::print_reads` is safe and ends: it ends at the twelfth.
 use native.Mathlib.Omega.{arith}
 use borrow.Author.Rules.{rules}
 use Prim.Native.Nat.{◌≤◌, ◌-◌}
@@ -6,10 +6,10 @@ use Rattle.readback_test.proofs.print_reads.Statement.{statement}
 use Rattle.readback_test.proofs.print_reads.Tie as tie
 
 abbrev invariant-loop : tie.invariant-loop
-invariant-loop text k₀ k = k ≤ 18
+invariant-loop text k₀ k = k ≤ 12
 
 abbrev decreases-loop : tie.decreases-loop
-decreases-loop text k₀ k = 18 - k
+decreases-loop text k₀ k = 12 - k
 
 pub print_reads_spec : {M : Type 1} → statement M
 print_reads_spec =

@@ -10,8 +10,8 @@ use Rattle.report.proofs.write_report.Tie as tie
 returns-2 : tie.Need-returns-2
 returns-2 c =
     let d = c.before.before.before.before.before.before.before.before in
-    has_room _ _ _ d.before.if1.false
-    (report_none _ _ _ (sym d.check-document.ensures ∙ ap check_answer c.before.before.before.before.before.before.checked2.given.1)
+    has_room _ _ d.before.if1.false
+    (report_none _ _ (sym d.check-document.ensures ∙ ap check_answer c.before.before.before.before.before.before.checked2.given.1)
     c.before.before.before.before.if2.true)
     c.before.before.put-lines.ensures
 
@@ -25,19 +25,19 @@ put-lines-requires-2 c κs = (
 returns-3 : tie.Need-returns-3
 returns-3 c =
     let d = c.before.before.before.before.before.before.before in
-    has_room _ _ _ d.before.if1.false
-    (report_refused _ _ _ _ (sym d.check-document.ensures ∙ ap check_answer c.before.before.before.before.before.checked.given.1))
+    has_room _ _ d.before.if1.false
+    (report_refused _ _ _ (sym d.check-document.ensures ∙ ap check_answer c.before.before.before.before.before.checked.given.1))
     c.before.before.put-refusal.ensures
 
 returns-4 : tie.Need-returns-4
 returns-4 c =
     let d = c.before.before.before.before.before.before.before.before in
-    has_room _ _ _ d.before.if1.false
-    (report_some _ _ _ (sym d.check-document.ensures ∙ ap check_answer c.before.before.before.before.before.before.checked2.given.1) (omega arith))
+    has_room _ _ d.before.if1.false
+    (report_some _ _ (sym d.check-document.ensures ∙ ap check_answer c.before.before.before.before.before.before.checked2.given.1) (omega arith))
     c.before.before.put-lines2.ensures
 
 pub write_report_spec : {M : Type 1} → statement M
 write_report_spec =
     tie.close
-    (tie.spec (λ c. no_room _ _ _ c.if1.true) _ (λ c. search rules) _ (λ c. search rules) (λ c κs. (omega arith, omega arith)) (λ c. search rules)
+    (tie.spec (λ c. no_room _ _ c.if1.true) _ (λ c. search rules) _ (λ c. search rules) (λ c κs. (omega arith, omega arith)) (λ c. search rules)
     returns-2 put-lines-requires-2 (λ c. search rules) returns-3 (λ c. search rules) returns-4)

@@ -14,8 +14,7 @@ returns c =
     let u = c.before.before.before in
     let p = u.before.before.before.before.before in
     let a = p.before.before.before in
-    let l = duration_le a.args.wording a.args.seconds a.ranges.seconds.fits in
-    let q = u.before.first.ensures ∙ put_take p.put-duration.ensures l in
+    let q = u.before.first.ensures ∙ put_take p.put-duration.ensures (duration_le a.args.seconds a.ranges.seconds.fits) in
     rw (u.skip.ensures ∙ ap (drop 1) q) at c.before.before.write-text.ensures
 
 pub write_duration_spec : {M : Type 1} → statement M

@@ -8,7 +8,6 @@ returns : tie.Need-returns
 unfolding are_cap
 returns c =
     rw (
-      c.before.before.before.before.before.before.before.before.is-wording.ensures,
       c.before.before.before.before.before.before.is_code.ensures,
       c.before.before.before.before.is-code2.ensures,
       c.before.before.is-code3.ensures,
@@ -19,5 +18,5 @@ returns c =
 pub are_cap_spec : {M : Type 1} → statement M
 are_cap_spec =
     tie.close
-    (tie.spec (λ c. search rules) (λ c. search rules) (λ c κs. search rules) (λ c. search rules) (λ c κs. search rules) (λ c. search rules) (λ c κs. search rules) (λ c. search rules)
+    (tie.spec (λ c. search rules) (λ c. search rules) (λ c κs. search rules) (λ c. search rules) (λ c κs. search rules) (λ c. search rules)
     (λ c κs. search rules) (λ c κs. search rules) (λ c κs. search rules) returns)

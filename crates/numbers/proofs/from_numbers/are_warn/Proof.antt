@@ -8,7 +8,6 @@ returns : tie.Need-returns
 unfolding are_warn
 returns c =
     rw (
-      c.before.before.before.before.before.before.before.before.before.before.before.before.before.before.before.before.before.before.is-wording.ensures,
       c.before.before.before.before.before.before.before.before.before.before.before.before.before.before.before.before.is-flag.ensures,
       c.before.before.before.before.before.before.before.before.before.before.before.before.before.before.is-flag2.ensures,
       c.before.before.before.before.before.before.before.before.before.before.before.before.is-flag3.ensures,
@@ -18,6 +17,6 @@ returns c =
 pub are_warn_spec : {M : Type 1} → statement M
 are_warn_spec =
     tie.close
-    (tie.spec (λ c. search rules) (λ c. search rules) (λ c κs. search rules) (λ c. search rules) (λ c κs. search rules) (λ c. search rules) (λ c κs. search rules) (λ c. search rules)
+    (tie.spec (λ c. search rules) (λ c. search rules) (λ c κs. search rules) (λ c. search rules) (λ c κs. search rules) (λ c. search rules)
     (λ c κs. search rules) (λ c. search rules) (λ c κs. search rules) (λ c. search rules) (λ c. search rules) (λ c. search rules) (λ c. search rules)
     (λ c. search rules) (λ c. search rules) (λ c. search rules) (λ c. search rules) (λ c. search rules) (λ c. search rules) returns)

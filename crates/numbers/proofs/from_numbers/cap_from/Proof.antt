@@ -8,7 +8,6 @@ returns : tie.Need-returns
 unfolding cap_from
 returns c =
     rw (
-      c.before.before.before.before.before.before.before.wording-from.ensures,
       c.before.before.before.before.before.message-at.ensures,
       c.before.before.before.status-at.ensures,
       c.before.scope-at.ensures,
@@ -18,5 +17,5 @@ returns c =
 pub cap_from_spec : {M : Type 1} → statement M
 cap_from_spec =
     tie.close
-    (tie.spec (λ c. search rules) (λ c κs. search rules) (λ c. search rules) (λ c κs. search rules) (λ c. search rules) (λ c κs. search rules) (λ c. search rules) (λ c κs. search rules)
+    (tie.spec (λ c. search rules) (λ c κs. search rules) (λ c. search rules) (λ c κs. search rules) (λ c. search rules) (λ c κs. search rules)
     (λ c κs. search rules) returns)

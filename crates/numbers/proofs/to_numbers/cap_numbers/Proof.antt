@@ -10,7 +10,6 @@ returns : tie.Need-returns
 returns c =
     rw (
       c.before.enum_told.given.1,
-      ← c.before.before.before.before.before.before.wording_number_lem.ensures,
       ← c.before.before.before.before.before.message-number.ensures,
       ← c.before.before.before.before.status-number.ensures,
       ← c.before.before.before.scope-number.ensures,
@@ -21,7 +20,6 @@ returns-2 : tie.Need-returns-2
 returns-2 c =
     rw (
       c.before.before.parts.given.1,
-      ← c.before.before.before.before.before.before.before.wording_number_lem.ensures,
       ← c.before.before.before.before.before.before.message-number.ensures,
       ← c.before.before.before.before.before.status-number.ensures,
       ← c.before.before.before.before.scope-number.ensures,
@@ -31,5 +29,5 @@ returns-2 c =
 pub cap_numbers_spec : {M : Type 1} → statement M
 cap_numbers_spec =
     tie.close
-    (tie.spec (λ c κs. search rules) (λ c κs. search rules) (λ c κs. search rules) (λ c κs. search rules) enum_told (λ c κs. search rules) (λ c. search rules)
+    (tie.spec (λ c κs. search rules) (λ c κs. search rules) (λ c κs. search rules) enum_told (λ c κs. search rules) (λ c. search rules)
     (λ c κs. search rules) returns returns-2)

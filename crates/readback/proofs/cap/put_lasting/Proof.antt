@@ -12,7 +12,7 @@ returns c = rw c.before.before.before.before.before.enum_told.given.1 c.before.b
 
 returns-2 : tie.Need-returns-2
 unfolding lasting_text
-returns-2 c = rw c.before.before.before.before.before.before.time.given.1 (both c.before.before.duration-field.ensures)
+returns-2 c = rw c.before.before.before.before.before.before.lasting.given.1 (both c.before.before.duration-field.ensures)
 
 pub put_lasting_spec : {M : Type 1} → statement M
 put_lasting_spec =

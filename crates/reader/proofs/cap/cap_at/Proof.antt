@@ -5,7 +5,7 @@ use lib.ListN.{drop, length-drop}
 use Rattle.codes.specs.Lists as list
 use Rattle.codes.specs.Values.{message_at, status_at, scope_at}
 use Rattle.sheet.specs.declared.Found.TheVariants as found
-use Rattle.sheet.specs.Reading.{after_word, wording_at, from_kind, from_status, from_scope, from_sender, from_name, from_parts, parts_of, cap_of, span_at}
+use Rattle.sheet.specs.Reading.{after_word, from_status, from_scope, from_sender, from_name, from_parts, parts_of, cap_of, span_at}
 use Rattle.sheet.proofs.ReadSentence.{rest_le, sender_rest, name_rest}
 use Rattle.reader.specs.Pieces.{word_code}
 use Rattle.reader.proofs.cap.cap_at.Statement.{statement}
@@ -14,14 +14,13 @@ use Rattle.reader.proofs.cap.cap_at.Tie as tie
 span-at-requires : tie.Need-span-at-requires
 unfolding from_status from_scope from_sender
 span-at-requires c κs =
-    let w = c.before.before.before.before.before.before.before.before.before.before in
-    let s = w.before.before.before.before.before.skip.ensures in
-    let k = w.before.before.before.before.from-kind.ensures ∙ ap from_kind s in
-    let m = w.before.before.before.skip2.ensures ∙ ap (drop 4) k in
+    let w = c.before.before.before.before.before.before.before.before.before in
+    let s = w.before.before.before.before.skip.ensures in
+    let m = w.before.before.before.skip2.ensures ∙ ap (drop 4) s in
     let u = w.before.before.after-word.ensures ∙ ap (after_word 2) m in
     let p = w.before.after-word2.ensures ∙ ap (after_word 2) u in
     let f = w.after-word3.ensures ∙ ap (after_word 7) p in
-    let b = w.before.before.before.before.before.before.before in
+    let b = w.before.before.before.before.before.before in
     let a = b.args in
     let r = rest_le _ _ (sender_rest (drop a.at a.t.now)) in
     (rw (s, f) r, rw s (omega (arith, length-drop a.at a.t.now, b.well-formed.0.1, b.ranges.at)))
@@ -29,15 +28,14 @@ span-at-requires c κs =
 span-at-requires-2 : tie.Need-span-at-requires-2
 unfolding from_status from_scope from_sender from_name
 span-at-requires-2 c κs =
-    let w = c.before.before.before.before.before.before.before.before.before.before in
-    let s = w.before.before.before.before.before.before.skip.ensures in
-    let k = w.before.before.before.before.before.from-kind.ensures ∙ ap from_kind s in
-    let m = w.before.before.before.before.skip2.ensures ∙ ap (drop 4) k in
+    let w = c.before.before.before.before.before.before.before.before.before in
+    let s = w.before.before.before.before.before.skip.ensures in
+    let m = w.before.before.before.before.skip2.ensures ∙ ap (drop 4) s in
     let u = w.before.before.before.after-word.ensures ∙ ap (after_word 2) m in
     let p = w.before.before.after-word2.ensures ∙ ap (after_word 2) u in
     let f = w.before.after-word3.ensures ∙ ap (after_word 7) p in
     let n = w.after-word4.ensures ∙ ap (after_word 7) f in
-    let b = w.before.before.before.before.before.before.before.before in
+    let b = w.before.before.before.before.before.before.before in
     let a = b.args in
     let r = rest_le _ _ (name_rest (drop a.at a.t.now)) in
     (rw (s, n) r, rw s (omega (arith, length-drop a.at a.t.now, b.well-formed.0.1, b.ranges.at)))
@@ -47,20 +45,17 @@ unfolding cap_of from_status from_scope from_sender from_name from_parts
 returns c =
     let b = c.before.before.before.before in
     let g = b.before.before.before.before in
-    let v = g.before.before in
-    let w = v.before in
-    let s = w.before.before.before.before.before.before.skip.ensures in
-    let k = w.before.before.before.before.before.from-kind.ensures ∙ ap from_kind s in
-    let m = w.before.before.before.before.skip2.ensures ∙ ap (drop 4) k in
+    let w = g.before.before in
+    let s = w.before.before.before.before.before.skip.ensures in
+    let m = w.before.before.before.before.skip2.ensures ∙ ap (drop 4) s in
     let u = w.before.before.before.after-word.ensures ∙ ap (after_word 2) m in
     let p = w.before.before.after-word2.ensures ∙ ap (after_word 2) u in
     let f = w.before.after-word3.ensures ∙ ap (after_word 7) p in
     let n = w.after-word4.ensures ∙ ap (after_word 7) f in
     let x = c.before.before.before.after-word5.ensures ∙ ap (after_word 0) n in
-    let a = w.before.before.before.before.before.before.before.before.args in
+    let a = w.before.before.before.before.before.before.before.args in
     λ i. found.Cap
     (record {
-      wording = (v.wording-at.ensures ∙ ap wording_at s) i;
       message = (g.message-at.ensures ∙ ap message_at (g.before.Code-in.ensures ∙ ap (word_code list.msg_type) m)) i;
       status = (b.before.before.status-at.ensures ∙ ap status_at (b.before.before.before.code-in2.ensures ∙ ap (word_code list.status) u)) i;
       scope = (b.scope-at.ensures ∙ ap scope_at (b.before.code-in3.ensures ∙ ap (word_code list.scope) p)) i;
@@ -70,4 +65,4 @@ returns c =
     ((c.span-at2.ensures ∙ ap₂ (span_at a.at) s n) i)
 
 pub cap_at_spec : {M : Type 1} → statement M
-cap_at_spec = tie.close (tie.spec _ _ _ _ _ _ _ _ _ _ _ _ _ _ _ _ span-at-requires span-at-requires-2 returns)
+cap_at_spec = tie.close (tie.spec _ _ _ _ _ _ _ _ _ _ _ _ _ _ span-at-requires span-at-requires-2 returns)

@@ -20,7 +20,7 @@ returns c =
     let e = b.before.before.before.after-flag4.ensures ∙ ap (after_flag (ascii " test")) t in
     let o = b.before.before.origin-of.ensures in
     let h = b.hazard-of.ensures ∙ ap hazard_of (b.before.last.ensures ∙ last_is b.before.before.before.after-flag4.result.now o) in
-    warn_is _ _ e o h (c.before.before.before.before.before.before.starts_with.ensures ∙ ap (starts_with (ascii " urgent")) u)
+    warn_is _ e o h (c.before.before.before.before.before.before.starts_with.ensures ∙ ap (starts_with (ascii " urgent")) u)
     (c.before.before.before.before.starts-with2.ensures ∙ ap (starts_with (ascii " update")) d)
     (c.before.before.starts-with3.ensures ∙ ap (starts_with (ascii " cancel")) n)
     (c.starts-with4.ensures ∙ ap (starts_with (ascii " test")) t)

@@ -8,10 +8,10 @@ use Rattle.report.proofs.lines.put_lines.Statement.{statement}
 use Rattle.report.proofs.lines.put_lines.Tie as tie
 
 abbrev invariant-loop : tie.invariant-loop
-invariant-loop dst₀ s wording first many at₀ part₀ left₀ dst at part left = (length dst ≡ length dst₀) × Left wording s dst₀ many first dst at part left
+invariant-loop dst₀ s first many at₀ part₀ left₀ dst at part left = (length dst ≡ length dst₀) × Left s dst₀ many first dst at part left
 
 abbrev decreases-loop : tie.decreases-loop
-decreases-loop dst₀ s wording first many at₀ part₀ left₀ dst at part left = left
+decreases-loop dst₀ s first many at₀ part₀ left₀ dst at part left = left
 
 returns : tie.Need-returns invariant-loop decreases-loop
 returns c =

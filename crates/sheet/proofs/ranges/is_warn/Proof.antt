@@ -7,7 +7,7 @@ use Rattle.sheet.proofs.ranges.is_warn.Tie as tie
 
 returns : tie.Need-returns
 returns c =
-    let g = c.before.struct_known.given.1.1.1.1.1 in
+    let g = c.before.struct_known.given.1.1.1.1 in
     c.is-lasting.ensures
     ∙ warn_in_range _
     (record {

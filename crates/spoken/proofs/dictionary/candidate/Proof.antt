@@ -1,7 +1,6 @@
--- A word that has a code has 2 to 9 letters, and its hash leads to its code.
+-- A word that has a code has 3 to 9 letters, and its hash leads to its code.
 use native.Mathlib.Omega.{arith}
 use borrow.Author.Rules.{rules, Fits-under}
-use Rattle.words.specs.Words.{unknown}
 use Rattle.spoken.proofs.Hash.{found_low, not_short, not_long, found_code}
 use Rattle.spoken.proofs.dictionary.candidate.Statement.{statement}
 use Rattle.spoken.proofs.dictionary.candidate.Tie as tie
@@ -15,7 +14,7 @@ returns-2 c = let s = c.before.before.before in (omega arith, λ h. absurd (omeg
 cast-result : tie.Need-overflow-cast-result
 cast-result c =
     let s = c.before.before.before.before.before.before.before.before in
-    Fits-under _ _ unknown (found_low s.requires _ _ (omega arith) (omega arith)) tt
+    Fits-under _ _ 40 (found_low s.requires _ _ (omega arith) (omega arith)) tt
 
 returns-3 : tie.Need-returns-3
 returns-3 c =

@@ -9,6 +9,5 @@ use Rattle.spoken.proofs.duration.put_duration.Tie as tie
 pub put_duration_spec : {M : Type 1} → statement M
 put_duration_spec =
     tie.close
-    (tie.spec (λ c κs. (omega arith, omega arith, omega arith)) (λ c κs. (omega arith, omega arith, omega arith))
-    (λ c κs. (omega arith, omega arith, omega arith)) (λ c κs. (omega arith, omega arith, omega arith)) (λ c. search rules)
-    (λ c. record { result = rw (lasting_parts _ _) (simp put_append (cc)) }))
+    (tie.spec (λ c κs. (omega arith, omega arith)) (λ c κs. (omega arith, omega arith)) (λ c κs. (omega arith, omega arith))
+    (λ c κs. (omega arith, omega arith)) (λ c. search rules) (λ c. record { result = rw (lasting_parts _) (simp put_append (cc)) }))

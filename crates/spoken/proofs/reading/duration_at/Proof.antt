@@ -22,21 +22,21 @@ returns : tie.Need-returns invariant-loop decreases-loop
 returns c =
     let u = c.before in
     let n = u.before.before in
-    sym (counts_last _ _ _ n.number_at.ensures _ _ _ u.before.unit_at.ensures u.unit_seconds_lem.ensures _ c.if1.true)
+    sym (counts_last _ _ _ n.number_at.ensures _ _ _ u.before.word_at_lem.ensures u.unit_seconds_lem.ensures _ c.if1.true)
     ∙ n.before.loop.invariant
 
 loop-less : tie.Need-loop-smaller invariant-loop decreases-loop
 loop-less c =
     let u = c.before.before in
     let n = u.before.before in
-    let r = counts_room _ _ _ n.number_at.ensures _ _ _ u.before.unit_at.ensures u.unit_seconds_lem.ensures c.before.if1.false in
+    let r = counts_room _ _ _ n.number_at.ensures _ _ _ u.before.word_at_lem.ensures u.unit_seconds_lem.ensures c.before.if1.false in
     omega arith
 
 loop-again : tie.Need-loop-preserved invariant-loop decreases-loop
 loop-again c =
     let u = c.before.before in
     let n = u.before.before in
-    sym (counts_next _ _ _ n.number_at.ensures _ _ _ u.before.unit_at.ensures u.unit_seconds_lem.ensures _ _ c.before.if1.false
+    sym (counts_next _ _ _ n.number_at.ensures _ _ _ u.before.word_at_lem.ensures u.unit_seconds_lem.ensures _ _ c.before.if1.false
     c.add-count.ensures)
     ∙ n.before.loop.invariant
 

@@ -10,7 +10,7 @@ returns c =
     let k = c.before.before.before.before in
     let w = c.before.before.write-drawn.ensures in
     let e = number_and_value w.0 in
-    rw (← (k.from-part.ensures ∙ k.before.cap_sheet_lem.ensures)) (e.0, e.1, w.1)
+    rw (← (k.from-part.ensures ∙ k.before.cap-sheet.ensures)) (e.0, e.1, w.1)
 
 pub warnbox_document_sentence_spec : {M : Type 1} → statement M
 warnbox_document_sentence_spec =

@@ -9,7 +9,7 @@ returns : tie.Need-returns
 returns c =
     let k = c.before.before.before in
     let e = number_and_value c.before.before.drawn-reply.ensures in
-    rw (← (k.from-part.ensures ∙ k.before.cap_sheet_lem.ensures)) (e.0, e.1, c.numbers-left.ensures)
+    rw (← (k.from-part.ensures ∙ k.before.cap-sheet.ensures)) (e.0, e.1, c.numbers-left.ensures)
 
 pub warnbox_document_sheet_spec : {M : Type 1} → statement M
 warnbox_document_sheet_spec =
