@@ -1,4 +1,7 @@
 // Texts written into a lent buffer.
+
+#![tactic(auto)]
+
 ghost use Rattle.std.specs.Prelude.{◌≡◌};
 ghost use Rattle.buffer.specs.Cursor.{Put};
 ghost use Rattle.buffer.specs.Writing.{write_text, text_answer, after_text};

@@ -1,4 +1,7 @@
 // Circles: their texts, and whether a place lies inside.
+
+#![tactic(auto)]
+
 mod table;
 
 ghost use Rattle.std.specs.Prelude.{◌≡◌, ◌*◌, ◌/◌, ◌≤◌, nat_abs, ◌-ℤ◌, get_or};

@@ -1,4 +1,7 @@
 // CAP's codes: their lists, a number for each code, the texts of the numbers, and the values that a fact sheet holds.
+
+#![tactic(auto)]
+
 pub mod list; // list.rt: the numbers of the lists
 pub mod texts; // texts.rt: codes by their texts
 pub mod values; // values.rt: values by their numbers

@@ -1,5 +1,7 @@
 // Places and the decimals that write them: latitude and longitude in units of 1e-7 degree, radii in metres.
 
+#![tactic(auto)]
+
 ghost use Rattle.std.specs.Prelude.{◌≡◌, nat_abs, ◌-ℤ◌, ◌≤◌, drop};
 ghost use Rattle.coordinates.specs.Decimal.{radius_of};
 ghost use Rattle.coordinates.specs.Answers.{degrees_answer, pair_answer, radius_answer};

@@ -1,4 +1,7 @@
 // CAP 1.2 documents: which are accepted, and why one is refused.
+
+#![tactic(auto)]
+
 ghost use Rattle.std.specs.Prelude.{◌≡◌};
 ghost use Rattle.document.specs.Documents.{first_step, check_of, check_answer};
 

@@ -1,6 +1,9 @@
 // Checks documents, and writes for each whether it is accepted, with its number of parts, or refused, with number and offset.
 // Standard input is a run of records: a length (3 bytes, big-endian) and a document. tests/documents.py writes the records and, by
 // the independent model, the stored output.
+
+#![tactic(auto)]
+
 use document::Check;
 use libc::{STDIN_FILENO, STDOUT_FILENO};
 

@@ -1,4 +1,7 @@
 // The event table: which packets are accepted, and what the table then holds.
+
+#![tactic(auto)]
+
 ghost use Rattle.std.specs.Prelude.{◌≡◌, length, replicate};
 ghost use Rattle.text.specs.Answers.{answer_number};
 ghost use Rattle.text.specs.Rooms.{after_listing};

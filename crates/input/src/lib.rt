@@ -1,4 +1,7 @@
 // A program's input, read from standard input into a lent buffer.
+
+#![tactic(auto)]
+
 ghost use Rattle.io.specs.Counts.{IsPrefixLen};
 
 use libc::STDIN_FILENO;

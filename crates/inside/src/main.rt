@@ -1,4 +1,7 @@
 // Reads one CAP document from standard input and writes for each part whether the place given as arguments is inside it, and why.
+
+#![tactic(auto)]
+
 use coordinates::{Degrees, Place};
 use document::Check;
 use input::Ending;

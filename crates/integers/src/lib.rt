@@ -1,1 +1,3 @@
 // Laws of signed integers, in specs/: magnitudes, and values read back from their bits. No code.
+
+#![tactic(auto)]

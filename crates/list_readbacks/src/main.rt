@@ -1,5 +1,8 @@
 // Reads a text of read-backs from standard input and lists them, each written anew from its sheet; or writes where the text isn't read-backs. A text of
 // more than 262,144 bytes is not judged by its first ones: it is said to be too long.
+
+#![tactic(auto)]
+
 ghost use Rattle.std.specs.Prelude.{◌≤◌, length};
 
 use input::Ending;

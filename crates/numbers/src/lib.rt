@@ -1,4 +1,7 @@
 // Sheets as 15 numbers, as C hands them in and gets them: what each of the 15 stands for is in include/warnbox.h and in specs/Numbers.antt.
+
+#![tactic(auto)]
+
 mod from_numbers; // from_numbers.rt: what numbers say
 mod to_numbers; // to_numbers.rt: the numbers of a sheet
 

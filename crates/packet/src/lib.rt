@@ -1,4 +1,7 @@
 // WARN 1.0 ALERT packets: their fields, their sheet, and whether their circle holds a place.
+
+#![tactic(auto)]
+
 ghost use Rattle.std.specs.Prelude.{◌≡◌, true, ◌-◌, length};
 ghost use Rattle.words.specs.Duration.{is_lasting};
 ghost use Rattle.packet.specs.Packet.{tlv_of, signature_of, tlv_span, signature_span, signed_span, lasting_of, packet_of, fault_number, packet_answer, sheet_of_fields, packet_sheet, sheet_answer, packet_place, place_answer};

@@ -1,4 +1,7 @@
 // Reads one WARN packet from standard input and writes its sentence, or its refusal.
+
+#![tactic(auto)]
+
 use input::Ending;
 use libc::STDOUT_FILENO;
 use packet::{Fault, PacketSheet};

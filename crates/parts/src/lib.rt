@@ -1,4 +1,7 @@
 // Parts of CAP documents: their sheets, and whether a place is inside one, and why.
+
+#![tactic(auto)]
+
 ghost use Rattle.std.specs.Prelude.{◌≡◌};
 ghost use Rattle.text.specs.Answers.{giving};
 ghost use Rattle.parts.specs.Elements.{look_up, lookup_answer};

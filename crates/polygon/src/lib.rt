@@ -1,4 +1,7 @@
 // Polygons: their texts, and whether a place lies inside.
+
+#![tactic(auto)]
+
 ghost use Rattle.std.specs.Prelude.{◌≡◌};
 ghost use Rattle.coordinates.specs.Answers.{inclusion_answer};
 ghost use Rattle.polygon.specs.Polygon.{same, same_place, is_polygon, polygon_holds};

@@ -1,4 +1,7 @@
 // Read-backs: the sentences of fact sheets, written into a lent buffer.
+
+#![tactic(auto)]
+
 mod fields; // fields.rt: the fields of a sentence
 pub mod cap; // cap.rt: the sentence of a CAP sheet
 pub mod warn; // warn.rt: the sentence of a WARN sheet

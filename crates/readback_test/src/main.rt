@@ -1,5 +1,8 @@
 // Writes a mixed list of sheets one after the other into one buffer, refused ones among them, and reads the text back.
 // tests/readback.py writes the stored output from the independent model.
+
+#![tactic(auto)]
+
 use codes::{Certainty, MessageType, Scope, Severity, Status, Urgency};
 use libc::STDOUT_FILENO;
 use sheet::{CapFacts, Found, Lasting, Part, Parts, ReadBack, Span, WarnFacts, WriteSheet};

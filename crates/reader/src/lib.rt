@@ -1,4 +1,7 @@
 // Reads texts of read-backs: how many there are, and the sheet of the one asked for.
+
+#![tactic(auto)]
+
 mod scan; // scan.rt: what leads a text
 mod cap; // cap.rt: CAP sentences, read loosely
 mod warn; // warn.rt: WARN sentences, read loosely

@@ -2,6 +2,9 @@
 // Standard input is a run of records: a letter ('R' to receive, 'S' to sweep, 'T' to write the table, 'L' to list the running events, 'P' to ask
 // about places near the date line), a clock (8 bytes), a verdict (1 byte), a length (2 bytes) and a packet. tests/receive.py writes the records
 // and, by the independent model, the stored output.
+
+#![tactic(auto)]
+
 ghost use Rattle.std.specs.Prelude.{◌≤◌, length};
 
 use coordinates::Place;

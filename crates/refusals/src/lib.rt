@@ -1,4 +1,7 @@
 // The names of refusals, written into a lent buffer.
+
+#![tactic(auto)]
+
 ghost use Rattle.std.specs.Prelude.{◌≡◌};
 ghost use Rattle.buffer.specs.Writing.{write_text, after_text};
 ghost use Rattle.refusals.specs.Names.{name_answer, naming, after_name};

@@ -1,4 +1,7 @@
 // What the program writes about a document: each part's sentence, or the refusal that stops it.
+
+#![tactic(auto)]
+
 ghost use Rattle.std.specs.Prelude.{◌≡◌};
 ghost use Rattle.report.specs.Lines.{reported, reported_in, report_answer};
 

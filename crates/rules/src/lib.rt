@@ -1,4 +1,7 @@
 // The rules of texts of CAP documents, by their element's class.
+
+#![tactic(auto)]
+
 ghost use Rattle.std.specs.Prelude.{◌≡◌};
 ghost use Rattle.rules.specs.Codes.{list_of, has_codes};
 ghost use Rattle.rules.specs.Texts.{name_rule, code_rule, time_rule, polygon_rule, circle_rule, is_time, text_rule};

@@ -1,4 +1,7 @@
 // Reads one CAP document from standard input and writes each part's sentence, or the refusal that stops it.
+
+#![tactic(auto)]
+
 use input::Ending;
 use libc::STDOUT_FILENO;
 use report::{ROOM, Report};

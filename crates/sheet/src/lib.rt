@@ -1,5 +1,8 @@
 // Fact sheets: what a sentence says, as values. The definitions of the sentence and of reading it are in specs/, the laws in proofs/;
 // the functions that write and read sentences are in the crates readback and reader.
+
+#![tactic(auto)]
+
 ghost use Rattle.std.specs.Prelude.{◌≡◌};
 ghost use Rattle.sheet.specs.Reading.{span_in};
 

@@ -1,5 +1,8 @@
 // A fact sheet that shows its sender and name as parts of a lent text: of the CAP document that it was drawn from, or of the text that it was read
 // out of.
+
+#![tactic(auto)]
+
 ghost use Rattle.std.specs.Prelude.{◌≡◌};
 ghost use Rattle.sheet.specs.Answers.{writing, write_answer, after};
 ghost use Rattle.shown.specs.Slices.{sender_in, name_in, sheet_with};

@@ -1,4 +1,7 @@
 // Numbers and durations in words, written into a lent buffer and read from a text.
+
+#![tactic(auto)]
+
 pub mod number; // number.rt: numbers in words
 pub mod duration; // duration.rt: durations in words
 mod dictionary; // dictionary.rt: the words and their codes

@@ -1,4 +1,7 @@
 // Bytes of texts: what is white space and what a digit, where a run of them ends; parts of texts, and texts compared.
+
+#![tactic(auto)]
+
 ghost use Rattle.std.specs.Prelude.{◌≡◌, ◌+◌, ◌-◌, take, drop};
 ghost use Rattle.text.specs.Bytes.{is_space, spaces, is_digit};
 ghost use Rattle.text.specs.Logic.{eql};

@@ -1,4 +1,7 @@
 // CAP times: a text to the instant it names, in whole seconds from 1970.
+
+#![tactic(auto)]
+
 mod calendar;
 mod form;
 mod instant;

@@ -1,6 +1,9 @@
 // Runs the definitions' values: all cosines, longitude differences, then each case of standard input, and writes the answers.
 // A case is a letter for its kind, a text, '#' and a line feed. tests/values.py writes the cases
 // and, from other sources, the answers.
+
+#![tactic(auto)]
+
 ghost use Rattle.std.specs.Prelude.{◌≤◌, nat_abs, length};
 
 use buffer::WriteText;

@@ -1,1 +1,3 @@
 // Laws for proofs by hand: no code.
+
+#![tactic(auto)]

@@ -1,6 +1,9 @@
 // The warning box for C: include/warnbox.h documents each function for its callers.
 // A function that can refuse gives the number of the refusal, 0 for none. Where there is something to tell, or a refusal has an offset, it writes a value:
 // the refusal's offset, or else what the function tells.
+
+#![tactic(auto)]
+
 mod documents; // documents.rt: CAP documents
 mod names; // names.rt: the names of refusals, and the library's version
 mod packets; // packets.rt: WARN packets

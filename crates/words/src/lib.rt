@@ -1,6 +1,8 @@
 // Numbers and durations in English words: the types that reading them answers. The definitions are in specs/, the laws in
 // proofs/; the functions that write and read words are in the crate spoken.
 
+#![tactic(auto)]
+
 // A number as far as its words were read: the sum of the thousands groups that are complete, and the current group.
 #[derive(Drop)]
 pub struct Groups {

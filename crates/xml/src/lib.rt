@@ -1,5 +1,8 @@
 // What a CAP document holds beside its tags: where a text, a comment or the declaration ends, and whether document 01 takes it.
 // Any offset may be given: past the end a document holds nothing.
+
+#![tactic(auto)]
+
 pub mod comments; // comments.rt
 pub mod opening; // opening.rt: byte order mark and declaration
 pub mod texts; // texts.rt: texts of leaf elements

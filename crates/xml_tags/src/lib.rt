@@ -1,5 +1,8 @@
 // The tags of CAP documents: where a tag and its name end, and the name space attribute of the alert.
 // Any offset may be given: past the end a document holds nothing.
+
+#![tactic(auto)]
+
 pub mod attributes; // attributes.rt: the name space attribute
 mod bytes; // bytes.rt: bytes by their kind
 pub mod ends; // ends.rt: where tags and their names end
