@@ -61,9 +61,19 @@ def arguments(text):
 
 def bare(term):
     term = term.strip()
-    while term.startswith("(") and arguments(term) == [term] and closes(term):
+    while term.startswith("(") and closes(term) and not is_tuple(term[1:-1]):
         term = term[1:-1].strip()
     return term
+
+
+def is_tuple(text):
+    depth = 0
+    for ch in text:
+        depth += ch in "([{"
+        depth -= ch in ")]}"
+        if ch == "," and depth == 0:
+            return True
+    return False
 
 
 def closes(term):
@@ -137,6 +147,49 @@ class Function:
         return re.sub(rf"(?<![^\s(){{}};,\[])({names})((?:\.{NAME})+)", path, term)
 
 
+def is_idle(arg):
+    term = bare(arg)
+    if term.startswith("λ "):
+        term = bare(term.split(".", 1)[1])
+    return bool(IDLE.match(term)) or term == "_"
+
+
+def aligned(needs, args, decl, where):
+    """Goals and answers in pairs, where there are more answers than goals: those that name their goal are fixed points."""
+    pairs, at, waiting = [], 0, []
+
+    def settle(until):
+        goals = needs[at:until]
+        open_ = list(waiting)
+        drop = lambda it: re.search(r"\.invariant(\.\d+)*\)?$", it)
+        for test in (lambda it: bare(it) == "_", drop, is_idle):
+            for it in list(open_):
+                if len(open_) > len(goals) and test(it):
+                    open_.remove(it)
+        if len(open_) == len(goals):
+            pairs.extend(zip(goals, open_))
+        elif any(not is_idle(it) for it in waiting):
+            told = [it for it in waiting if not is_idle(it)]
+            returns = [it for it in goals if it[0].startswith("returns")]
+            if len(told) == len(returns):
+                pairs.extend(zip(returns, told))
+            else:
+                print(f"note: {where}: {len(goals)} goals, {len(open_)} answers: {'; '.join(told)}")
+
+    for arg in args:
+        term = bare(arg)
+        m = re.search(r": tie\.Need-(\S+)", decl[term].split("\n")[0]) if term in decl else None
+        index = next((i for i, it in enumerate(needs) if m and it[0].replace("_", "-") == m[1].replace("_", "-") and i >= at), None)
+        if index is None:
+            waiting.append(arg)
+            continue
+        settle(index)
+        pairs.append((needs[index], arg))
+        at, waiting = index + 1, []
+    settle(len(needs))
+    return [it[0] for it in pairs], [it[1] for it in pairs]
+
+
 def convert(crate, path, text, entry):
     f = Function(entry)
     head, pieces = tops(text)
@@ -155,9 +208,9 @@ def convert(crate, path, text, entry):
     invs, rest = [], list(args)
     while rest and rest[0] in decl and re.search(r": tie\.(invariant|decreases|ghost)", decl[rest[0]]):
         invs.append(rest.pop(0))
-    needs = entry["needs"]
+    needs = [(old, new, at[0]) for (old, new), at in zip(entry["needs"], entry["asked_at"])]
     if len(needs) != len(rest):
-        print(f"note: {where}: {len(needs)} goals, {len(rest)} answers")
+        needs, rest = aligned(needs, rest, decl, where)
     out_inv, out_ans, used = [], [], set(invs) | {main}
     loops = {old: (new, vs, ch) for ((old, new), vs), ch in zip(entry["loops"], entry["changed"])}
     for name in invs:
@@ -187,7 +240,7 @@ def convert(crate, path, text, entry):
             new, rename = loop, {p: f"l.{p}" for p in params}
         term = re.sub(NAME, lambda m: rename.get(m[0], m[0]) if not term[: m.start()].endswith(".") else m[0], term)
         out_inv.append(f"abbrev pub {kind}-{new} : goal.{kind}-{new}\n{open_}{kind}-{new} l ={term.rstrip()}")
-    for (old, new), (place, _), arg in zip(needs, entry["asked_at"], rest):
+    for (old, new, place), arg in zip(needs, rest):
         term, lead = bare(arg), "c"
         open_ = opened
         if term in decl and "tie." in decl[term].split("\n")[0]:

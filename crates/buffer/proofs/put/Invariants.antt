@@ -1,0 +1,15 @@
+-- Before each turn the first i bytes of the text are written.
+use mathlib.Core.Path.{◌≡◌, refl}
+use Prim.Native.Nat.{◌≤◌, ◌-◌}
+use native.Mathlib.Omega.{arith}
+use lib.ListN.{length, length-set, take}
+use Rattle.buffer.specs.Cursor.{Put}
+use Rattle.buffer.proofs.Chain.{put_none}
+use Rattle.buffer.proofs.Copying.{copy_more, copy_full, copy_done}
+use Rattle.buffer.proofs.put.Given as goal
+
+abbrev pub invariant-loop-i : goal.invariant-loop-i
+invariant-loop-i l = (l.i ≤ length l.src) × (length l.dst ≡ length l.initial.dst) × Put l.initial.dst l.at (take l.i l.src) l.dst l.k
+
+abbrev pub decreases-loop-i : goal.decreases-loop-i
+decreases-loop-i l = length l.src - l.i
