@@ -1,0 +1,22 @@
+-- The array holds the words after their spaces, and they are written without the first space.
+use mathlib.Core.Path.{refl, ap, ◌∙◌}
+use lib.ListN.{drop}
+use borrow.Author.Rules.{rules}
+use Rattle.buffer.proofs.Room.{put_take}
+use Rattle.words.specs.Words.{words}
+use Rattle.words.proofs.Lengths.{said_le}
+use Rattle.spoken.proofs.write_number.Goals as goal
+
+pub slice_bounds-first-end : goal.slice_bounds-first-end
+slice_bounds-first-end c = _
+
+pub first-requires : goal.first-requires
+first-requires c = _
+
+pub skip-requires : goal.skip-requires
+skip-requires c = _
+
+pub returns : goal.returns
+unfolding words
+returns c = let q = c.first.ensures ∙ put_take c.put_number-k.ensures (said_le c.args.n c.ranges.n.fits) in
+    rw (c.skip.ensures ∙ ap (drop 1) q) at c.write_text.ensures
