@@ -15,3 +15,11 @@ unfolding dictionary word spaced
 returns c = let w = c.candidate-w in
     code_other _ _ _ _ w.ensures.0 c.spaced_word.ensures c.skip.ensures w.ensures.1
     (sym c.equals.ensures ∙ c.if-equals.false)
+
+pub spaced_word-requires : goal.spaced_word-requires
+unfolding dictionary word spaced
+spaced_word-requires c = search rules
+
+pub candidate-w-requires : goal.candidate-w-requires
+unfolding dictionary word spaced
+candidate-w-requires c = search rules

@@ -1,5 +1,4 @@
 -- A count that is not 0: its number, and its unit after it.
-use borrow.Author.Rules.{rules}
 use Rattle.buffer.proofs.Chain.{put_none, put_then}
 use Rattle.words.proofs.Cases.{counted_none, counted_one, counted_many}
 use Rattle.spoken.proofs.duration.put_counted.Goals as goal

@@ -1,6 +1,5 @@
 -- The four counts one after the other.
 use native.Mathlib.Omega.{arith}
-use borrow.Author.Rules.{rules}
 use Rattle.buffer.proofs.Chain.{put_append}
 use Rattle.words.proofs.Cases.{lasting_parts}
 use Rattle.spoken.proofs.duration.put_duration.Goals as goal

@@ -1,6 +1,4 @@
 -- From 20 on: the word of the tens, and the ones after it.
-use native.Mathlib.Omega.{arith}
-use borrow.Author.Rules.{rules}
 use Rattle.buffer.proofs.Chain.{put_then}
 use Rattle.words.proofs.Cases.{hundred_low, hundred_high}
 use Rattle.spoken.proofs.number.put_below_hundred.Goals as goal

@@ -1,6 +1,4 @@
 -- From 100 on: the hundreds, their word, and the rest after it.
-use native.Mathlib.Omega.{arith}
-use borrow.Author.Rules.{rules}
 use Rattle.buffer.proofs.Chain.{put_append}
 use Rattle.words.proofs.Cases.{thousand_low, thousand_high}
 use Rattle.spoken.proofs.number.put_below_thousand.Goals as goal

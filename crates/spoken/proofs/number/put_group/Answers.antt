@@ -1,6 +1,4 @@
 -- A group that is not empty: its number, and its word after it.
-use native.Mathlib.Omega.{arith}
-use borrow.Author.Rules.{rules}
 use Rattle.buffer.proofs.Chain.{put_none, put_then}
 use Rattle.words.proofs.Cases.{group_none, group_some}
 use Rattle.spoken.proofs.number.put_group.Goals as goal

@@ -1,6 +1,5 @@
 -- A number that is not 0: its three groups and the rest, each after the one before.
 use native.Mathlib.Omega.{arith}
-use borrow.Author.Rules.{rules}
 use Rattle.buffer.proofs.Chain.{put_append}
 use Rattle.words.proofs.Cases.{said_zero, said_some}
 use Rattle.spoken.proofs.number.put_number.Goals as goal

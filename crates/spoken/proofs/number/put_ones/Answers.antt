@@ -1,6 +1,4 @@
 -- Each branch writes what the definition says there.
-use native.Mathlib.Omega.{arith}
-use borrow.Author.Rules.{rules}
 use Rattle.buffer.proofs.Chain.{put_none}
 use Rattle.words.proofs.Cases.{ones_none, ones_some}
 use Rattle.spoken.proofs.number.put_ones.Goals as goal

@@ -1,6 +1,5 @@
 -- The product of two numbers below 2^32 and a third fit in 64 bits.
 use native.Mathlib.Omega.{arith}
-use borrow.Author.Rules.{rules}
 use Rattle.spoken.proofs.Groups.{count_le}
 use Rattle.spoken.proofs.reading.add_count.Goals as goal
 

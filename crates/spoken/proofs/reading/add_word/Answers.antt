@@ -1,6 +1,5 @@
 -- Each branch is the step's, and no sum reaches 2^64.
 use native.Mathlib.Omega.{arith}
-use borrow.Author.Rules.{rules}
 use Rattle.spoken.proofs.Groups.{worth_le, product_le, step_small, step_hundred, step_group}
 use Rattle.spoken.proofs.reading.add_word.Goals as goal
 

@@ -1,10 +1,9 @@
 -- Before each turn the seconds read from i on, with those so far, are those at the start.
-use mathlib.Core.Path.{◌≡◌, refl, sym, ◌∙◌}
+use mathlib.Core.Path.{◌≡◌}
 use Prim.Native.Nat.{◌-◌}
-use native.Mathlib.Omega.{arith}
 use lib.ListN.{length, drop}
 use Rattle.words.specs.Reading.{duration_at}
-use Rattle.spoken.proofs.Turns.{counts_from, counts_next, counts_room, counts_last}
+use Rattle.spoken.proofs.Turns.{counts_from}
 use Rattle.spoken.proofs.reading.duration_at.Given as goal
 
 abbrev pub invariant-loop-n : goal.invariant-loop-n

@@ -1,12 +1,9 @@
 -- Before each turn the number read from i on, with the groups so far, is the number at the start.
-use mathlib.Core.Path.{◌≡◌, refl, sym, ap, ◌∙◌}
-use Prim.Native.Nat.{ℕ, ◌-◌, ◌<◌}
-use native.Mathlib.Omega.{arith}
+use mathlib.Core.Path.{◌≡◌}
+use Prim.Native.Nat.{◌-◌, ◌<◌}
 use lib.ListN.{length, drop}
 use Rattle.words.specs.Reading.{number_at}
-use Rattle.words.proofs.Steps.{quantity}
-use Rattle.spoken.proofs.Groups.{step_kept}
-use Rattle.spoken.proofs.Turns.{number_from, number_next, number_room, number_last}
+use Rattle.spoken.proofs.Turns.{number_from}
 use Rattle.spoken.proofs.reading.number_at.Given as goal
 
 abbrev pub invariant-loop-w : goal.invariant-loop-w

@@ -1,10 +1,5 @@
-use native.Mathlib.Omega.{arith}
-use borrow.Author.Rules.{rules}
-use Prim.Native.Nat.{◌+◌, ◌-◌}
-use mathlib.Core.Path.{◌≡◌, refl}
-use lib.ListN.{length, drop}
 use Rattle.text.proofs.Runs.{run_on, run_stop, run_end}
-use Rattle.words.specs.Reading.{is_letter, letters}
+use Rattle.words.specs.Reading.{is_letter}
 use Rattle.spoken.proofs.reading.word_end.Goals as goal
 
 pub loop-i-preserved : goal.loop-i-preserved

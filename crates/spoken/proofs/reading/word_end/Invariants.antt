@@ -1,11 +1,8 @@
 -- Before each turn the run of letters from i on ends where the one from the start does.
-use native.Mathlib.Omega.{arith}
-use borrow.Author.Rules.{rules}
 use Prim.Native.Nat.{◌+◌, ◌-◌}
-use mathlib.Core.Path.{◌≡◌, refl}
+use mathlib.Core.Path.{◌≡◌}
 use lib.ListN.{length, drop}
-use Rattle.text.proofs.Runs.{run_on, run_stop, run_end}
-use Rattle.words.specs.Reading.{is_letter, letters}
+use Rattle.words.specs.Reading.{letters}
 use Rattle.spoken.proofs.reading.word_end.Given as goal
 
 abbrev pub invariant-loop-i : goal.invariant-loop-i

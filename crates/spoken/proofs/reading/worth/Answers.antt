@@ -1,6 +1,5 @@
 -- Each branch is the definition's.
 use borrow.Author.Tests.{lt-ltb, le-ltb}
-use borrow.Author.Rules.{rules}
 use Rattle.spoken.proofs.reading.worth.Goals as goal
 
 pub returns-then-w-lt20 : goal.returns-then-w-lt20
