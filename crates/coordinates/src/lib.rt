@@ -18,7 +18,7 @@ const LONGITUDE_LIMIT: u64 = 1_800_000_000;
 const RADIUS_LIMIT: u64 = 20_000_000;
 
 // A place on the grid of latitude and longitude, in units of 1e-7 degree; south and west are negative.
-#[derive(Drop)]
+#[derive(Clone, Copy)]
 pub struct Place {
     pub lat: i32,
     pub lon: i32,
@@ -27,56 +27,56 @@ pub struct Place {
 // What leads a text, and where it ends: a run of digits, a decimal, a coordinate, a pair. A fault there is part of a text that is refused with 22.
 
 // The number that a run of digits writes and the offset after it, or that it has too many digits.
-#[derive(Drop)]
+#[derive(Clone, Copy)]
 pub enum Run {
     Value(u64, usize),
     TooLong,
 }
 
 // A number that a decimal writes and the offset after it, or that no such decimal stands there.
-#[derive(Drop)]
+#[derive(Clone, Copy)]
 pub enum Decimal {
     Value(u64, usize),
     Fault,
 }
 
 // A signed coordinate and the offset after it, or that none stands there.
-#[derive(Drop)]
+#[derive(Clone, Copy)]
 pub enum Coordinate {
     Value(i32, usize),
     Fault,
 }
 
 // A place that leads a text and the offset after it, or that none does.
-#[derive(Drop)]
+#[derive(Clone, Copy)]
 pub enum LeadingPair {
     At(Place, usize),
     Fault,
 }
 
 // A latitude or a longitude that a whole text writes.
-#[derive(Drop)]
+#[derive(Clone, Copy)]
 pub enum Degrees {
     Units(i32),
     Fault,
 }
 
 // A place that a whole text writes.
-#[derive(Drop)]
+#[derive(Clone, Copy)]
 pub enum Pair {
     At(Place),
     Fault,
 }
 
 // A radius that a whole text writes.
-#[derive(Drop)]
+#[derive(Clone, Copy)]
 pub enum Radius {
     Metres(u32),
     Fault,
 }
 
 // Whether a shape holds a place; or that there is no such shape.
-#[derive(Drop)]
+#[derive(Clone, Copy)]
 pub enum Inclusion {
     Inside,
     Outside,

@@ -20,7 +20,7 @@ pub read_given : (w : Width) (z : ℤ) → mag z < 2 ^ hbits w → read w z ≡ 
 read_given w z h = to_z-of_z {w = w} (record { sfits = h })
 
 pub read_small : (z : ℤ) → nat_abs z ≤ 9_223_372_036_854_775_807 → read w64 z ≡ z
-read_small z h = to_z-of_z (fits_abs (omega arith))
+read_small z h = to_z-of_z {w = w64} (fits_abs (omega arith))
 
 -- ---- 32 bits widened to 64
 

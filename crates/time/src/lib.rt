@@ -14,7 +14,7 @@ ghost use Rattle.time.specs.Time.{form, stamp_time, time_of, time_answer};
 const FORM_LENGTH: usize = 25;
 
 // A time as it is written: the calendar, the clock, and how far the clock is from UTC, to the west or the east.
-#[derive(Drop)]
+#[derive(Clone, Copy)]
 pub struct Stamp {
     pub year: u64,
     pub month: u64,

@@ -4,14 +4,14 @@
 #![tactic(auto)]
 
 // A number as far as its words were read: the sum of the thousands groups that are complete, and the current group.
-#[derive(Drop)]
+#[derive(Clone, Copy)]
 pub struct Groups {
     pub sum: u64,
     pub current: u64,
 }
 
 // A number that was read, and the offset after its last word.
-#[derive(Drop)]
+#[derive(Clone, Copy)]
 pub struct Quantity {
     pub value: u32,
     pub end: usize,

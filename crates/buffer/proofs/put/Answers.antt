@@ -1,8 +1,6 @@
-use mathlib.Core.Path.{◌≡◌, refl}
-use Prim.Native.Nat.{◌≤◌, ◌-◌}
+use mathlib.Core.Path.{refl}
 use native.Mathlib.Omega.{arith}
-use lib.ListN.{length, length-set, take}
-use Rattle.buffer.specs.Cursor.{Put}
+use lib.ListN.{length-set}
 use Rattle.buffer.proofs.Chain.{put_none}
 use Rattle.buffer.proofs.Copying.{copy_more, copy_full, copy_done}
 use Rattle.buffer.proofs.put.Goals as goal

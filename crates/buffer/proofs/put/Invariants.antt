@@ -1,11 +1,8 @@
 -- Before each turn the first i bytes of the text are written.
-use mathlib.Core.Path.{◌≡◌, refl}
+use mathlib.Core.Path.{◌≡◌}
 use Prim.Native.Nat.{◌≤◌, ◌-◌}
-use native.Mathlib.Omega.{arith}
-use lib.ListN.{length, length-set, take}
+use lib.ListN.{length, take}
 use Rattle.buffer.specs.Cursor.{Put}
-use Rattle.buffer.proofs.Chain.{put_none}
-use Rattle.buffer.proofs.Copying.{copy_more, copy_full, copy_done}
 use Rattle.buffer.proofs.put.Given as goal
 
 abbrev pub invariant-loop-i : goal.invariant-loop-i

@@ -1,6 +1,5 @@
 -- The two tests are that the text has no room; else it is written whole.
 use native.Mathlib.Omega.{arith}
-use borrow.Author.Rules.{rules}
 use Rattle.buffer.proofs.Room.{no_room, has_room}
 use Rattle.buffer.proofs.write_text.Goals as goal
 
