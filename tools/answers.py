@@ -254,10 +254,12 @@ def convert(crate, path, text, entry):
         elif term.startswith("λ "):
             lead, term = term[2:].split(".", 1)
             lead, term = lead.strip(), bare(term)
-        if IDLE.match(term):
+        if IDLE.match(term) and not (open_ and re.match("returns|.*requires", new)):
             continue
         lead = lead.split()
-        term = f.turn(term, place, lead[0] if lead else "c")
+        term = f.turn(term, place, lead[0] if lead else "c").replace(".type-inv", ".type_inv")
+        # the test of an `if !x` is of x itself today
+        term = re.sub(rf"not-(?:true|false) (?:{NAME}(?:\.{NAME})*|_) ((?:c|{NAME})\.if-not-{NAME}\.(?:true|false))", r"\1", term)
         more = "".join(" " + x for x in lead[1:] if x != "κs")
         text_ = f"pub {new} : goal.{new}\n" + (open_ + "\n" if open_ else "") + f"{new} {lead[0] if lead else 'c'}{more} = {term}"
         out_ans.append(text_)

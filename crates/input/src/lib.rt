@@ -1,10 +1,10 @@
-// A program's input, read from standard input into a lent buffer.
+// A program's input, read from a reader into a lent buffer.
 
 #![tactic(auto)]
 
 ghost use Rattle.io.specs.Counts.{IsPrefixLen};
 
-use libc::STDIN_FILENO;
+use std::io::{Read, Result};
 
 // How reading ended: with the input, with a full buffer and more of the input behind it, or with a read that failed.
 #[derive(Drop)]
@@ -21,27 +21,41 @@ pub struct Input {
     pub ending: Ending,
 }
 
-// How reading ended, by what one more read of a byte gave.
-fn ending_of(more: isize, is_full: bool) -> Ending {
-    if more == 0 {
-        return Ending::Whole;
+// How reading ended with a full buffer, by what one more read of a byte gave.
+fn ending_of(more: Result<usize>) -> Ending {
+    match more {
+        Ok(0) => Ending::Whole,
+        Ok(_) => Ending::More,
+        Err(_) => Ending::Failed,
     }
-    if (more > 0) & is_full {
-        return Ending::More;
-    }
-    Ending::Failed
 }
 
 // Reads the input. Of the bytes that come no contract can say more than how many they are.
-pub fn read_input(buffer: &mut [u8]) -> Input
+pub fn read_input<R: Read>(reader: &mut R, buffer: &mut [u8]) -> Input
     ensures { IsPrefixLen result.length buffer.new }
 {
+    let mut length = 0;
+    while length < buffer.len() {
+        match reader.read(&mut buffer[length..]) {
+            Ok(0) => {
+                return Input {
+                    length,
+                    ending: Ending::Whole,
+                };
+            }
+            Ok(n) => length += n,
+            Err(_) => {
+                return Input {
+                    length,
+                    ending: Ending::Failed,
+                };
+            }
+        }
+    }
     let mut next = [0u8; 1];
-    let length = io::read_full(STDIN_FILENO, buffer);
-    let is_full = length == buffer.len();
-    let more = libc::read(STDIN_FILENO, &mut next);
+    let more = reader.read(&mut next);
     Input {
         length,
-        ending: ending_of(more, is_full),
+        ending: ending_of(more),
     }
 }

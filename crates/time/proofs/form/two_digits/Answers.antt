@@ -1,0 +1,10 @@
+-- Both bytes lie within the text, and a byte's value is at most 207.
+use native.Mathlib.Omega.{arith}
+use Rattle.time.proofs.Forms.{two_digits}
+use Rattle.time.proofs.form.two_digits.Goals as goal
+
+pub returns : goal.returns
+returns c = (
+  two_digits _ _ _ _ c.requires c.digit.ensures.0 c.digit-2.ensures.0,
+  omega arith,
+)
