@@ -18,7 +18,7 @@ pub const MAX_LENGTH: usize = 65_536;
 
 // Where reading stands: the offset, the state of the container, the leaf whose end tag is due (0 for none), the infos so far,
 // and where the document's prefix stands.
-#[derive(Drop)]
+#[derive(Clone, Copy)]
 pub struct Mode {
     pub at: usize,
     pub state: usize,

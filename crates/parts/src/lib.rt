@@ -22,7 +22,7 @@ pub const KEPT: usize = 7;
 
 // Where the texts stand that a sheet is drawn from: those of the alert's own classes from identifier to scope, and those of the asked part's classes from
 // urgency to expires.
-#[derive(Drop)]
+#[derive(Clone, Copy)]
 pub struct Facts {
     pub alert: [Span; KEPT],
     pub part: [Span; KEPT],
