@@ -2,7 +2,7 @@
 # The library as C sees it: the header, the examples and the programs in c/ compile without a warning in every dialect, they print what is stored there,
 # and no function takes more stack than the header says. Its last line is 'N passed, M failed'.
 #
-#     rt staticlib warnbox && tests/c_interface.sh
+#     tests/archive.sh && tests/c_interface.sh
 cd "$(dirname "$0")/.."
 warnings="-Wall -Wextra -Wpedantic -Wconversion -Wshadow -Werror"
 archive=target/staticlib/libwarnbox.a

@@ -23,12 +23,12 @@ coasts=$(mktemp -d)
 trap 'rm -rf "$got" "$wanted" "$coasts"' EXIT
 
 for document in tests/vectors/*.xml tests/requests/*.xml; do
-    target/bin/sentences <"$document" >"$got"
+    crates/sentences/out/sentences <"$document" >"$got"
     expect "$document" "${document%.xml}.out" "$got"
 done
 
 for packet in tests/vectors/*.hex; do
-    python3 -c 'import sys; sys.stdout.buffer.write(bytes.fromhex(open(sys.argv[1]).read()))' "$packet" | target/bin/packet_sentence >"$got"
+    python3 -c 'import sys; sys.stdout.buffer.write(bytes.fromhex(open(sys.argv[1]).read()))' "$packet" | crates/packet_sentence/out/packet_sentence >"$got"
     expect "$packet" "${packet%.hex}.out" "$got"
 done
 
@@ -36,7 +36,7 @@ done
 ask() {
     while read -r document latitude longitude answer; do
         [ "$document" != "#" ] || continue
-        target/bin/inside "$latitude" "$longitude" <"$1/$document.xml" >"$got"
+        crates/inside/out/inside "$latitude" "$longitude" <"$1/$document.xml" >"$got"
         echo "$answer" | tr / '\n' >"$wanted"
         expect "$document $latitude $longitude" "$wanted" "$got"
     done <"$1/places.txt"
@@ -46,42 +46,42 @@ python3 tests/coasts.py "$coasts"
 ask "$coasts"
 
 cat tests/vectors/007-I4.out tests/vectors/warn-01-sample.out >"$wanted"
-target/bin/list_readbacks <"$wanted" >"$got"
+crates/list_readbacks/out/list_readbacks <"$wanted" >"$got"
 (echo "3 read-backs"; cat "$wanted") >"$got.all"
 expect "list_readbacks" "$got.all" "$got"
-(cat "$wanted"; echo "cap alert.") | target/bin/list_readbacks >"$got"
+(cat "$wanted"; echo "cap alert.") | crates/list_readbacks/out/list_readbacks >"$got"
 echo "refused 23 at $(stat -c %s "$wanted")" >"$got.all"
 expect "list_readbacks, a damaged text" "$got.all" "$got"
 # no answer about a part of an input: 2,048 lines of 146 bytes are more than the program holds
-yes "$(head -1 tests/vectors/007-I4.out)" | head -n 2048 | target/bin/list_readbacks >"$got"
+yes "$(head -1 tests/vectors/007-I4.out)" | head -n 2048 | crates/list_readbacks/out/list_readbacks >"$got"
 echo "input over 262144 bytes" >"$got.all"
 expect "list_readbacks, a text too long" "$got.all" "$got"
 yes "$(head -1 tests/vectors/007-I4.out)" | head -n 1795 >"$wanted"
 (echo "1795 read-backs"; cat "$wanted") >"$got.all"
-target/bin/list_readbacks <"$wanted" >"$got"
+crates/list_readbacks/out/list_readbacks <"$wanted" >"$got"
 expect "list_readbacks, a long text" "$got.all" "$got"
 echo "input can't be read" >"$got.all"
 for program in sentences packet_sentence "inside 0 0" list_readbacks; do
-    target/bin/$program <tests >"$got"
+    crates/${program%% *}/out/$program <tests >"$got"
     expect "$program, a folder as its input" "$got.all" "$got"
 done
-head -c 262145 /dev/zero | target/bin/receive_test >"$got"
+head -c 262145 /dev/zero | crates/receive_test/out/receive_test >"$got"
 echo "input over 262144 bytes" >"$got.all"
 expect "receive_test, an input too long" "$got.all" "$got"
-head -c 65537 /dev/zero | target/bin/values_test | tail -n 1 >"$got"
+head -c 65537 /dev/zero | crates/values_test/out/values_test | tail -n 1 >"$got"
 echo "input over 65536 bytes" >"$got.all"
 expect "values_test, an input too long" "$got.all" "$got"
-printf '\377\377\377' | target/bin/document_test >"$got"
+printf '\377\377\377' | crates/document_test/out/document_test >"$got"
 echo "document over 70000 bytes" >"$got.all"
 expect "document_test, a document too long" "$got.all" "$got"
-printf '\0\0\377' | target/bin/document_test >"$got"
+printf '\0\0\377' | crates/document_test/out/document_test >"$got"
 echo "document cut short" >"$got.all"
 expect "document_test, a document cut short" "$got.all" "$got"
-(cat tests/vectors/warn-01-sample.out; yes) | head -c 70000 | target/bin/sentences >"$got"
+(cat tests/vectors/warn-01-sample.out; yes) | head -c 70000 | crates/sentences/out/sentences >"$got"
 echo "refused 14 at 0" >"$got.all"
 expect "sentences, an input too long" "$got.all" "$got"
 
-target/bin/inside 91 0 </dev/null | grep -c '^usage: ' >"$got"
+crates/inside/out/inside 91 0 </dev/null | grep -c '^usage: ' >"$got"
 echo 1 >"$got.all"
 expect "inside, bad arguments" "$got.all" "$got"
 rm -f "$got.all"
