@@ -2,7 +2,7 @@
  * since its number isn't above the one that is stored. Then the running events are listed (a packet with the CANCEL flag leaves none), and the table is
  * swept.
  *
- *     rt staticlib warnbox && cc -Iinclude examples/receipt.c target/staticlib/libwarnbox.a -o target/receipt
+ *     tests/archive.sh && cc -Iinclude examples/receipt.c target/staticlib/libwarnbox.a -o target/receipt
  *     xxd -r -p tests/vectors/warn-01-sample.hex > target/packet && target/receipt target/packet
  */
 #include <inttypes.h>

@@ -1,6 +1,6 @@
 /* Reads a CAP document from standard input and prints the sentence of each part, to the first refusal; then reads its own sentences back.
  *
- *     rt staticlib warnbox && cc -Iinclude examples/sentence.c target/staticlib/libwarnbox.a -o target/sentence
+ *     tests/archive.sh && cc -Iinclude examples/sentence.c target/staticlib/libwarnbox.a -o target/sentence
  *     target/sentence < tests/vectors/007-I2.xml
  */
 #include <stdio.h>
