@@ -12,7 +12,7 @@ ghost use Rattle.circle.specs.Circle.{cosine_at, units_of, shorter_way, within_s
 use coordinates::{Inclusion, Pair, Place, Radius};
 
 // A circle that a text writes: its centre and its radius in metres.
-#[derive(Drop)]
+#[derive(Clone, Copy)]
 pub enum Circle {
     Around(Place, u32),
     Fault,

@@ -6,7 +6,7 @@ pub mod list; // list.rt: the numbers of the lists
 pub mod texts; // texts.rt: codes by their texts
 pub mod values; // values.rt: values by their numbers
 
-#[derive(Drop)]
+#[derive(Clone, Copy)]
 pub enum MessageType {
     Alert,
     Update,
@@ -15,7 +15,7 @@ pub enum MessageType {
     Error,
 }
 
-#[derive(Drop)]
+#[derive(Clone, Copy)]
 pub enum Status {
     Actual,
     Exercise,
@@ -24,14 +24,14 @@ pub enum Status {
     Draft,
 }
 
-#[derive(Drop)]
+#[derive(Clone, Copy)]
 pub enum Scope {
     Public,
     Restricted,
     Private,
 }
 
-#[derive(Drop)]
+#[derive(Clone, Copy)]
 pub enum Urgency {
     Immediate,
     Expected,
@@ -40,7 +40,7 @@ pub enum Urgency {
     Unknown,
 }
 
-#[derive(Drop)]
+#[derive(Clone, Copy)]
 pub enum Severity {
     Extreme,
     Severe,
@@ -49,7 +49,7 @@ pub enum Severity {
     Unknown,
 }
 
-#[derive(Drop)]
+#[derive(Clone, Copy)]
 pub enum Certainty {
     Observed,
     Likely,

@@ -5,7 +5,12 @@
 #![tactic(auto)]
 
 use document::Check;
-use libc::{STDIN_FILENO, STDOUT_FILENO};
+
+// The standard input.
+const STDIN_FILENO: i32 = 0;
+
+// The standard output.
+const STDOUT_FILENO: i32 = 1;
 
 fn print(text: &[u8]) {
     io::write_all(STDOUT_FILENO, text);

@@ -5,8 +5,13 @@
 use coordinates::{Degrees, Place};
 use document::Check;
 use input::Ending;
-use libc::STDOUT_FILENO;
 use parts::{CapWhy, ShapeAt, ShapeKind};
+use std::env;
+use std::env::Args;
+use std::io::{ErrorKind, Result};
+
+// The standard output.
+const STDOUT_FILENO: i32 = 1;
 
 fn print(text: &[u8]) {
     io::write_all(STDOUT_FILENO, text);
@@ -94,9 +99,10 @@ fn print_answers(document: &[u8], place: Place) {
     }
 }
 
-fn answer(place: Place) {
+fn answer(rt: &HostRuntime, place: Place) {
     let mut document = [0u8; 65537]; // one byte more than a document may have: what follows can't change the answer
-    let read = input::read_input(&mut document);
+    let mut reader = rt.reader();
+    let read = input::read_input(&mut reader, &mut document);
     let n = read.length;
     let ending = read.ending;
     match ending {
@@ -105,30 +111,46 @@ fn answer(place: Place) {
     }
 }
 
-// A latitude or longitude out of an argument.
-fn degrees(i: usize) -> Degrees {
-    let mut word = [0u8; 32];
-    let n = os::arg(i, &mut word);
-    if i == 1 {
-        return coordinates::read_latitude(&word[..n]);
+// How many bytes of an argument are looked at: a longer one is no latitude or longitude.
+const LONGEST_ARGUMENT: usize = 32;
+
+// The bytes of an argument, none where it is too long.
+fn argument(word: &String) -> &[u8] {
+    let text = word.as_str().as_bytes();
+    if LONGEST_ARGUMENT < text.len() {
+        return &text[..0];
     }
-    coordinates::read_longitude(&word[..n])
+    text
 }
 
-fn main() {
-    if os::arg_count() != 3 {
-        print_usage();
-        return;
+// The place that two arguments name, if there are two and they name one.
+fn place_of(arguments: Args) -> Option<Place> {
+    let mut arguments = arguments;
+    let _program = arguments.next()?;
+    let first = arguments.next()?;
+    let second = arguments.next()?;
+    if arguments.next().is_some() {
+        return None;
     }
-    let latitude = degrees(1);
-    let longitude = degrees(2);
-    let Degrees::Units(lat) = latitude else {
-        print_usage();
-        return;
+    let Degrees::Units(lat) = coordinates::read_latitude(argument(&first)) else {
+        return None;
     };
-    let Degrees::Units(lon) = longitude else {
-        print_usage();
-        return;
+    let Degrees::Units(lon) = coordinates::read_longitude(argument(&second)) else {
+        return None;
     };
-    answer(Place { lat: lat, lon: lon });
+    Some(Place { lat: lat, lon: lon })
+}
+
+// Arguments that aren't text are no place either; an error is that memory ran out.
+fn main(rt: HostRuntime) -> Result<()> {
+    let place = match env::args(&rt) {
+        Ok(arguments) => place_of(arguments),
+        Err(e) if e.kind() == ErrorKind::InvalidData => None,
+        Err(e) => return Err(e),
+    };
+    match place {
+        Some(place) => answer(&rt, place),
+        None => print_usage(),
+    }
+    Ok(())
 }

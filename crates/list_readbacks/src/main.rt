@@ -6,9 +6,11 @@
 ghost use Rattle.std.specs.Prelude.{◌≤◌, length};
 
 use input::Ending;
-use libc::STDOUT_FILENO;
 use sheet::{Found, ReadBack, WriteSheet};
 use shown::Facts;
+
+// The standard output.
+const STDOUT_FILENO: i32 = 1;
 
 fn print(text: &[u8]) {
     io::write_all(STDOUT_FILENO, text);
@@ -102,9 +104,10 @@ fn read_back(text: &[u8]) {
     }
 }
 
-fn main() {
+fn main(rt: HostRuntime) {
     let mut text = [0u8; 262144];
-    let read = input::read_input(&mut text);
+    let mut reader = rt.reader();
+    let read = input::read_input(&mut reader, &mut text);
     let n = read.length;
     let ending = read.ending;
     match ending {

@@ -3,9 +3,11 @@
 #![tactic(auto)]
 
 use input::Ending;
-use libc::STDOUT_FILENO;
 use packet::{Fault, PacketSheet};
 use sheet::{WarnFacts, WriteSheet};
+
+// The standard output.
+const STDOUT_FILENO: i32 = 1;
 
 // Room for any sentence.
 const SENTENCE_ROOM: usize = 1024;
@@ -35,9 +37,10 @@ fn print_answer(packet: &[u8]) {
     }
 }
 
-fn main() {
+fn main(rt: HostRuntime) {
     let mut packet = [0u8; 1201]; // one byte more than a packet may have: what follows can't change the answer
-    let read = input::read_input(&mut packet);
+    let mut reader = rt.reader();
+    let read = input::read_input(&mut reader, &mut packet);
     let n = read.length;
     let ending = read.ending;
     match ending {

@@ -2,7 +2,6 @@
 use mathlib.Core.Path.{◌≡◌, refl, sym, ap, ◌∙◌}
 use mathlib.Core.Bool.{Bool, true, false, cond, not, beq, ◌&&◌, ◌||◌}
 use mathlib.Core.List.{List, [], ◌∷◌}
-use mathlib.Core.Logic.{⊎_elim}
 use Prim.Native.Nat.{ℕ, suc, ◌+◌, ◌%◌}
 use native.Mathlib.Nat.{add-zero, zero-add}
 use native.Mathlib.Omega.{arith}
@@ -10,8 +9,6 @@ use borrow.Author.Tests.{eqb-true, eqb-false, eq-eqb, ne_eqb}
 use lib.Dec.{eqb, leb}
 use lib.ListN.{length, drop}
 use mir.Val.{bool_byte}
-use types.Run.{OneOf}
-use denote.Enum.Declared.{tag_of}
 use Rattle.text.specs.Answers.{Answer, gives, refuses, answer_and_then, giving, is_given, answer_number}
 use Rattle.text.specs.Logic.{by_test, cond_cases}
 use Rattle.text.specs.Tokens.{tokens}
@@ -25,7 +22,6 @@ use Rattle.polygon.specs.Polygon.{places_of, same_place, last_of, is_closed, is_
 use Rattle.polygon.specs.Edges.{edge_of, plus_of, tallied}
 use Rattle.polygon.specs.Next.{next_of}
 use Rattle.polygon.specs.Ring.{closes, verdict_of, answer_of}
-use Rattle.polygon.specs.contracts.pairs.Next.{the_type}
 use Rattle.polygon.proofs.Tallies.{none, xor_false, plus_none, plus_assoc}
 use Rattle.polygon.proofs.Tokens.{says}
 
@@ -139,14 +135,14 @@ module _ (p : Place) (l : List ℕ) where
       let ts = tokens (drop e l) in
       holds_all j p q q 1 none ts ∙ rw (k.1.0.first, k.1.1) (whole_ring j q (places_of ts))
 
-  -- a text that starts with no pair: the answer is one of the two other variants, by their indices in the declaration
-  none_whole : (n : Next) → OneOf (1 ∷ 2 ∷ []) (tag_of the_type n) → n ≡ next_of l 0 → polygon_of l ≡ refuses 22 0
+  -- a text that starts with no pair: the answer is one of the two other variants
+  none_whole : (n : Next) → ((q : Place) (e : ℕ) → n ≡ next.Pair q e → ⊥) → n ≡ next_of l 0 → polygon_of l ≡ refuses 22 0
   unfolding polygon_of places_of is_closed
-  none_whole (next.Pair p e) k h = absurd (⊎_elim (λ f. omega arith) (λ f. omega arith) k)
+  none_whole (next.Pair q e) k h = absurd (k q e refl)
   none_whole next.End k h = rw (says l 0 next.End (sym h))
   none_whole next.Fault k h = let v = says l 0 next.Fault (sym h) in rw (v.1.1.0.first, v.1.1.1)
 
-  pub whole_none : (j : Bool) (n : Next) → OneOf (1 ∷ 2 ∷ []) (tag_of the_type n) → n ≡ next_of l 0 → refuses 22 0 ≡ answer_of j l p
+  pub whole_none : (j : Bool) (n : Next) → ((q : Place) (e : ℕ) → n ≡ next.Pair q e → ⊥) → n ≡ next_of l 0 → refuses 22 0 ≡ answer_of j l p
   whole_none j n k h = rw (none_whole n k h)
 
 -- ---- whether there is a polygon

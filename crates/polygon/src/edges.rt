@@ -9,14 +9,14 @@ ghost use Rattle.polygon.specs.Skips.{on_one_side};
 use coordinates::Place;
 
 // A product by its sign and magnitude.
-#[derive(Drop)]
+#[derive(Clone, Copy)]
 struct Product {
     negative: bool,
     magnitude: u64,
 }
 
 // What edges say of a place: it lies on one of them, and an odd number of them cross east of it.
-#[derive(Drop)]
+#[derive(Clone, Copy)]
 pub struct Tally {
     pub on: bool,
     pub crossed: bool,

@@ -6,7 +6,7 @@ ghost use Rattle.polygon.specs.Next.{next_of};
 use coordinates::{LeadingPair, Place};
 
 // The next pair of a text and the offset after it; or that the text ends, or that no pair stands there.
-#[derive(Drop)]
+#[derive(Clone, Copy)]
 pub enum Next {
     Pair(Place, usize),
     End,

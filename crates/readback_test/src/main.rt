@@ -4,8 +4,10 @@
 #![tactic(auto)]
 
 use codes::{Certainty, MessageType, Scope, Severity, Status, Urgency};
-use libc::STDOUT_FILENO;
 use sheet::{CapFacts, Found, Lasting, Part, Parts, ReadBack, Span, WarnFacts, WriteSheet};
+
+// The standard output.
+const STDOUT_FILENO: i32 = 1;
 
 // Room for any sentence.
 const SENTENCE_ROOM: usize = 1024;

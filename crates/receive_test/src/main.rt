@@ -10,9 +10,11 @@ ghost use Rattle.std.specs.Prelude.{◌≤◌, length};
 use coordinates::Place;
 use events::{Entry, EventId, Receipt, Table};
 use input::Ending;
-use libc::STDOUT_FILENO;
 use packet::{PacketPlace, PacketSheet};
 use sheet::WriteSheet;
+
+// The standard output.
+const STDOUT_FILENO: i32 = 1;
 
 // Room for any sentence.
 const SENTENCE_ROOM: usize = 1024;
@@ -231,9 +233,10 @@ fn record_end(input: &[u8], start: usize, len: u64) -> usize
     start + n
 }
 
-fn main() {
+fn main(rt: HostRuntime) {
     let mut records = [0u8; 262144];
-    let read = input::read_input(&mut records);
+    let mut reader = rt.reader();
+    let read = input::read_input(&mut reader, &mut records);
     let n = read.length;
     let ending = read.ending;
     match ending {

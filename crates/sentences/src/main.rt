@@ -3,8 +3,10 @@
 #![tactic(auto)]
 
 use input::Ending;
-use libc::STDOUT_FILENO;
 use report::{ROOM, Report};
+
+// The standard output.
+const STDOUT_FILENO: i32 = 1;
 
 fn print_report(document: &[u8]) {
     let mut lines = [0u8; ROOM];
@@ -17,9 +19,10 @@ fn print_report(document: &[u8]) {
     }
 }
 
-fn main() {
+fn main(rt: HostRuntime) {
     let mut document = [0u8; 65537]; // one byte more than a document may have: what follows can't change the answer
-    let read = input::read_input(&mut document);
+    let mut reader = rt.reader();
+    let read = input::read_input(&mut reader, &mut document);
     let n = read.length;
     let ending = read.ending;
     match ending {

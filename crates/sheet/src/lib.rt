@@ -11,14 +11,14 @@ use codes::{Certainty, MessageType, Scope, Severity, Status, Urgency};
 pub mod ranges; // ranges.rt: the ranges of a sheet's facts
 
 // How long a CAP part lasts: document 01's lasting time, in seconds, or its absence.
-#[derive(Drop)]
+#[derive(Clone, Copy)]
 pub enum Lasting {
     Unstated,
     Seconds(u32),
 }
 
 // A part of a CAP alert: an info element, by its number among all of them.
-#[derive(Drop)]
+#[derive(Clone, Copy)]
 pub struct Part {
     pub number: u8,
     pub total: u8,
@@ -29,14 +29,14 @@ pub struct Part {
 }
 
 // The part that a sheet tells of; document 01's part 0 of 0 is `NoPart`.
-#[derive(Drop)]
+#[derive(Clone, Copy)]
 pub enum Parts {
     NoPart,
     OnePart(Part),
 }
 
 // The facts of a CAP sheet but its sender and name, which are bytes beside it.
-#[derive(Drop)]
+#[derive(Clone, Copy)]
 pub struct CapFacts {
     pub message: MessageType,
     pub status: Status,
@@ -45,7 +45,7 @@ pub struct CapFacts {
 }
 
 // The facts of a WARN sheet.
-#[derive(Drop)]
+#[derive(Clone, Copy)]
 pub struct WarnFacts {
     pub urgent: bool,
     pub update: bool,
@@ -65,28 +65,28 @@ pub struct WarnFacts {
 
 // A part of a text. C reads it, so it is laid out as C does.
 #[repr(C)]
-#[derive(Drop)]
+#[derive(Clone, Copy)]
 pub struct Span {
     pub start: usize,
     pub len: usize,
 }
 
 // A sheet that was found in a text: its facts, and for CAP where its sender and its name stand in the text.
-#[derive(Drop)]
+#[derive(Clone, Copy)]
 pub enum Found {
     Cap(CapFacts, Span, Span),
     Warn(WarnFacts),
 }
 
 // What stands at an offset of a text: a read-back with its sheet and its length, or something else.
-#[derive(Drop)]
+#[derive(Clone, Copy)]
 pub enum Line {
     Sentence(Found, usize),
     Other,
 }
 
 // The answer to writing a sheet: where its sentence ends, or a refusal.
-#[derive(Drop)]
+#[derive(Clone, Copy)]
 pub enum WriteSheet {
     End(usize),
     OutOfRange,
@@ -94,7 +94,7 @@ pub enum WriteSheet {
 }
 
 // The answer to reading a text back: how many read-backs it has and, where one was asked for, its sheet; or a refusal.
-#[derive(Drop)]
+#[derive(Clone, Copy)]
 pub enum ReadBack {
     Count(usize),
     Sheet(usize, Found),

@@ -8,6 +8,7 @@ use crate::dictionary::{DAY, DAYS, HOUR, HOURS, MINUTE, MINUTES, SECOND, SECONDS
 use crate::number::put_number;
 
 // A count and its unit, the singular for a count of one; nothing where the count is 0.
+#[tactic(auto, using(words::proofs::Cases::counted_none, words::proofs::Cases::counted_one, words::proofs::Cases::counted_many, buffer::proofs::Chain::put_none, buffer::proofs::Chain::put_then))]
 fn put_counted(dst: &mut [u8], at: usize, n: u32, one: usize, many: usize) -> usize
     requires { (one < 40) × (many < 40) }
     ensures { Put dst.old at (spaced (counted n one many)) dst.new result }

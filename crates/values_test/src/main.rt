@@ -9,8 +9,10 @@ ghost use Rattle.std.specs.Prelude.{◌≤◌, nat_abs, length};
 use buffer::WriteText;
 use coordinates::{Degrees, Inclusion, Pair, Place, Radius};
 use input::Ending;
-use libc::STDOUT_FILENO;
 use time::Time;
+
+// The standard output.
+const STDOUT_FILENO: i32 = 1;
 
 // Longitudes around the date line, half way round from it, and at the ends of i32.
 const LONGITUDES: [i32; 16] = [
@@ -225,11 +227,12 @@ fn print_longitudes() {
     }
 }
 
-fn main() {
+fn main(rt: HostRuntime) {
     print_cosines();
     print_longitudes();
     let mut cases = io::large_buffer();
-    let read = input::read_input(&mut cases);
+    let mut reader = rt.reader();
+    let read = input::read_input(&mut reader, &mut cases);
     let n = read.length;
     let ending = read.ending;
     match ending {

@@ -16,8 +16,7 @@ use crate::sheets::{from_part, numbers_left, write_drawn};
 use coordinates::Place;
 
 // Checks a document; the value is its number of parts.
-#[unsafe(no_mangle)]
-pub extern "C" fn warnbox_check_document(document: &[u8], value: &mut usize) -> u8
+pub fn warnbox_check_document(document: &[u8], value: &mut usize) -> u8
     ensures { (result ≡ (reply (check_of document.now)).number) × (value.new ≡ (reply (check_of document.now)).value) }
 {
     let reply = check_reply(document::check_document(document));
@@ -26,8 +25,7 @@ pub extern "C" fn warnbox_check_document(document: &[u8], value: &mut usize) -> 
 }
 
 // Writes the sentence of a part of a document; the value is the sentence's end.
-#[unsafe(no_mangle)]
-pub extern "C" fn warnbox_document_sentence(
+pub fn warnbox_document_sentence(
     buffer: &mut [u8],
     start: usize,
     document: &[u8],
@@ -45,8 +43,7 @@ pub extern "C" fn warnbox_document_sentence(
 }
 
 // Draws the sheet of a part of a document, as numbers; the value is 0. A refusal leaves `sheet` as it was.
-#[unsafe(no_mangle)]
-pub extern "C" fn warnbox_document_sheet(
+pub fn warnbox_document_sheet(
     document: &[u8],
     part: usize,
     sheet: &mut [u64; 15],
@@ -64,8 +61,7 @@ pub extern "C" fn warnbox_document_sheet(
 }
 
 // Whether a place is inside a part of a document; the value is 0 for outside, 1 for inside, 2 for no shape.
-#[unsafe(no_mangle)]
-pub extern "C" fn warnbox_document_place(
+pub fn warnbox_document_place(
     document: &[u8],
     part: usize,
     lat: i32,
@@ -81,8 +77,7 @@ pub extern "C" fn warnbox_document_place(
 }
 
 // Why a place is inside a part of a document or outside it; number and value are those of whether it is. A refusal leaves `why` as it was.
-#[unsafe(no_mangle)]
-pub extern "C" fn warnbox_document_why(
+pub fn warnbox_document_why(
     document: &[u8],
     part: usize,
     lat: i32,

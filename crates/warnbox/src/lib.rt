@@ -1,16 +1,16 @@
-// The warning box for C: include/warnbox.h documents each function for its callers.
+// The warning box as C calls it, through the crate warnbox_c: include/warnbox.h documents each function for its callers.
 // A function that can refuse gives the number of the refusal, 0 for none. Where there is something to tell, or a refusal has an offset, it writes a value:
 // the refusal's offset, or else what the function tells.
 
 #![tactic(auto)]
 
-mod documents; // documents.rt: CAP documents
-mod names; // names.rt: the names of refusals, and the library's version
-mod packets; // packets.rt: WARN packets
+pub mod documents; // documents.rt: CAP documents
+pub mod names; // names.rt: the names of refusals, and the library's version
+pub mod packets; // packets.rt: WARN packets
 mod reasons; // reasons.rt: why a place is inside a part of a document or outside it, as numbers
 mod replies; // replies.rt: answers as numbers
 pub mod running; // running.rt: the running events of the event table
-mod sentences; // sentences.rt: writing a sheet, and reading a text back
+pub mod sentences; // sentences.rt: writing a sheet, and reading a text back
 mod sheets; // sheets.rt: sheets that are drawn from documents and packets
 pub mod tables; // tables.rt: the event table as the caller lends it
 mod writing; // writing.rt: the sentence of a sheet, the answer as numbers

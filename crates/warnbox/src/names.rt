@@ -7,8 +7,7 @@ ghost use Rattle.warnbox.specs.Version.{version};
 use crate::replies::name_reply;
 
 // Writes the name of a refusal's number; the value is the name's end.
-#[unsafe(no_mangle)]
-pub extern "C" fn warnbox_refusal_name(
+pub fn warnbox_refusal_name(
     buffer: &mut [u8],
     start: usize,
     number: u8,
@@ -24,8 +23,7 @@ pub extern "C" fn warnbox_refusal_name(
 }
 
 // The library's version as one number.
-#[unsafe(no_mangle)]
-pub extern "C" fn warnbox_version() -> u32
+pub fn warnbox_version() -> u32
     ensures { result ≡ version }
 {
     20_100

@@ -107,8 +107,7 @@ fn read_parts(packet: &[u8], before: PacketParts) -> PacketRead
 }
 
 // Reads a packet: its fields, and where its parts stand. A refused one leaves `parts` as it was.
-#[unsafe(no_mangle)]
-pub extern "C" fn warnbox_read_packet(packet: &[u8], parts: &mut PacketParts) -> u8
+pub fn warnbox_read_packet(packet: &[u8], parts: &mut PacketParts) -> u8
     ensures { (result ≡ answer_number (packet_of packet.now))
         × (parts.new ≡ given_or parts.old (giving (parts_of packet.now) (packet_of packet.now))) }
 {
@@ -118,8 +117,7 @@ pub extern "C" fn warnbox_read_packet(packet: &[u8], parts: &mut PacketParts) ->
 }
 
 // Writes the sentence of a packet; the value is the sentence's end.
-#[unsafe(no_mangle)]
-pub extern "C" fn warnbox_packet_sentence(
+pub fn warnbox_packet_sentence(
     buffer: &mut [u8],
     start: usize,
     packet: &[u8],
@@ -136,8 +134,7 @@ pub extern "C" fn warnbox_packet_sentence(
 }
 
 // Draws the sheet of a packet, as numbers. A refused packet leaves `sheet` as it was.
-#[unsafe(no_mangle)]
-pub extern "C" fn warnbox_packet_sheet(packet: &[u8], sheet: &mut [u64; 15]) -> u8
+pub fn warnbox_packet_sheet(packet: &[u8], sheet: &mut [u64; 15]) -> u8
     ensures { (result ≡ answer_number (packet_sheet packet.now))
         × (sheet.new ≡ given_or sheet.old (giving numbers_of (giving Warn (packet_sheet packet.now)))) }
 {
@@ -147,8 +144,7 @@ pub extern "C" fn warnbox_packet_sheet(packet: &[u8], sheet: &mut [u64; 15]) -> 
 }
 
 // Whether a place is inside a packet's circle; the value is 0 for outside, 1 for inside.
-#[unsafe(no_mangle)]
-pub extern "C" fn warnbox_packet_place(packet: &[u8], lat: i32, lon: i32, value: &mut usize) -> u8
+pub fn warnbox_packet_place(packet: &[u8], lat: i32, lon: i32, value: &mut usize) -> u8
     ensures { (result ≡ (reply (giving bool_byte (packet_place packet.now (record { lat = lat; lon = lon })))).number)
         × (value.new ≡ (reply (giving bool_byte (packet_place packet.now (record { lat = lat; lon = lon })))).value) }
 {

@@ -51,8 +51,7 @@ pub fn list_running(room: &mut [EventId], entries: &[Entry], time: u64) -> ListR
 }
 
 // Lists the running events; the value is how many they are.
-#[unsafe(no_mangle)]
-pub extern "C" fn warnbox_running(
+pub fn warnbox_running(
     room: &mut [EventId],
     entries: &[Entry],
     time: u64,

@@ -60,8 +60,7 @@ fn write_numbers(buffer: &mut [u8], start: usize, text: &[u8], sheet: &[u64; 15]
 }
 
 // Writes the sentence of a sheet, whose sender and name stand in a text; the value is the sentence's end.
-#[unsafe(no_mangle)]
-pub extern "C" fn warnbox_write(
+pub fn warnbox_write(
     buffer: &mut [u8],
     start: usize,
     text: &[u8],
@@ -78,8 +77,7 @@ pub extern "C" fn warnbox_write(
 }
 
 // Counts the read-backs of a text; the value is their number.
-#[unsafe(no_mangle)]
-pub extern "C" fn warnbox_count(text: &[u8], value: &mut usize) -> u8
+pub fn warnbox_count(text: &[u8], value: &mut usize) -> u8
     ensures { (result ≡ (reply (giving count_of (read_back text.now 0))).number) × (value.new ≡ (reply (giving count_of (read_back text.now 0))).value) }
 {
     let reply = read_reply(reader::read_back(text, 0));
@@ -100,8 +98,7 @@ fn numbers_left(read: ReadBack, before: [u64; 15]) -> [u64; 15]
 }
 
 // Gives the sheet of a read-back of a text, counted from 1; the value is the number of read-backs.
-#[unsafe(no_mangle)]
-pub extern "C" fn warnbox_read_back(
+pub fn warnbox_read_back(
     text: &[u8],
     k: usize,
     sheet: &mut [u64; 15],

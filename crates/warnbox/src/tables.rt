@@ -9,8 +9,7 @@ use events::plans::{Candidates, Plan};
 use events::{Entry, New, Position, Receipt};
 
 // Frees the used entries whose keep-until is below a time.
-#[unsafe(no_mangle)]
-pub extern "C" fn warnbox_sweep(entries: &mut [Entry], time: u64)
+pub fn warnbox_sweep(entries: &mut [Entry], time: u64)
     ensures { entries.new ≡ swept_all time entries.old }
 {
     let mut i: usize = 0;
@@ -34,8 +33,7 @@ fn scan(entries: &[Entry], key: u32, event: u32) -> Candidates
 }
 
 // The index of an event's first used entry, the number of entries where it has none.
-#[unsafe(no_mangle)]
-pub extern "C" fn warnbox_find_event(entries: &[Entry], key: u32, event: u32) -> usize
+pub fn warnbox_find_event(entries: &[Entry], key: u32, event: u32) -> usize
     ensures { result ≡ index_of key event entries.now }
 {
     let mut i: usize = 0;
@@ -87,8 +85,7 @@ fn answer(entries: &mut [Entry], checked: Checked) -> Receipt
 
 // A packet is received. `verified` is the signature chip's verdict, any byte but 0 being yes; `keys` are the key ids that are listened to. Every
 // refusal's offset is 0.
-#[unsafe(no_mangle)]
-pub extern "C" fn warnbox_receive(
+pub fn warnbox_receive(
     entries: &mut [Entry],
     packet: &[u8],
     keys: &[u32],
