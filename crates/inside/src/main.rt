@@ -114,13 +114,18 @@ fn answer(rt: &HostRuntime, place: Place) {
 // How many bytes of an argument are looked at: a longer one is no latitude or longitude.
 const LONGEST_ARGUMENT: usize = 32;
 
-// The bytes of an argument, none where it is too long.
-fn argument(word: &String) -> &[u8] {
+// A latitude or longitude out of an argument.
+fn degrees(i: usize, word: &String) -> Degrees {
     let text = word.as_str().as_bytes();
-    if LONGEST_ARGUMENT < text.len() {
-        return &text[..0];
+    let n = if LONGEST_ARGUMENT < text.len() {
+        0
+    } else {
+        text.len()
+    };
+    if i == 1 {
+        return coordinates::read_latitude(&text[..n]);
     }
-    text
+    coordinates::read_longitude(&text[..n])
 }
 
 // The place that two arguments name, if there are two and they name one.
@@ -132,10 +137,12 @@ fn place_of(arguments: Args) -> Option<Place> {
     if arguments.next().is_some() {
         return None;
     }
-    let Degrees::Units(lat) = coordinates::read_latitude(argument(&first)) else {
+    let latitude = degrees(1, &first);
+    let longitude = degrees(2, &second);
+    let Degrees::Units(lat) = latitude else {
         return None;
     };
-    let Degrees::Units(lon) = coordinates::read_longitude(argument(&second)) else {
+    let Degrees::Units(lon) = longitude else {
         return None;
     };
     Some(Place { lat: lat, lon: lon })
