@@ -9,7 +9,7 @@ use mathlib.Core.Option.{some}
 use mathlib.Core.List.{List, [], ◌∷◌}
 use lib.Dec.{T}
 use seplogic.Ra.Ura.{Ura}
-use seplogic.Ra.TreeShare.{full_share}
+use base.Fraction.{full_share}
 use mir.Syntax.{Ty, field, place, copy, Rv as RValue, Body, seq, assign}
 use mir.Val.{Val, WT, has_ty}
 use base.Fml.{Share, fat, froom}
