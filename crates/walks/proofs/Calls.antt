@@ -1,9 +1,9 @@
 -- A call in a walk by hand, to the place where its result is stored.
 --     called           of any function, from the tokens and what its parameters own: its result, its tokens, what is said of the last values, and
 --                      what its contract ensures
---     calls-some       of a function whose result is plain data. φ is what the contract ensures
---     calls-equal      of a function whose result is plain data that the contract equates with x: the result is x
---     calls-plain      of a function of plain data whose result the contract equates with x: all that is asked is had for nothing, and the result is
+--     calls_some       of a function whose result is plain data. φ is what the contract ensures
+--     calls_equal      of a function whose result is plain data that the contract equates with x: the result is x
+--     calls_plain      of a function of plain data whose result the contract equates with x: all that is asked is had for nothing, and the result is
 --                      x
 -- The operands are read with what is asked in front of the context.
 -- Assumes `Logic`.

@@ -1,5 +1,5 @@
 -- A `&mut T` of plain data, in a walk by hand.
---     opened-ref       it is opened, which gives the value in its place.        closed-ref       it is closed at another value
+--     opened_ref       it is opened, which gives the value in its place.        closed_ref       it is closed at another value
 -- Assumes `Logic`.
 use mathlib.Core.Path.{refl}
 use mathlib.Core.List.{List, [], ◌∷◌}

@@ -1,10 +1,10 @@
 -- A slice that is lent, in a walk by hand.
 --     opened, closed   a `&mut [T]` is opened, which gives the row of its elements, and is closed at another list of the same length.        looked,
---                      shut      the like of a `&[T]`, which gives a share of the row
---     opened-first     a `&mut [T]` is opened with the first of several tokens; the others stay.        copied   a `&[T]` is had twice
---     given-up         a `&mut [T]` is given up, which leaves what says its last list.        spent    it was given up to a callee
---     lent_again       a whole row is lent as a `&[T]` for a lifetime ν of its own, until it comes back (`back_again`).        lent_mut, back-mut       the
---                      like of a `&mut [T]`, which comes back with the callee's last list
+--                      shut      the like of a `&[T]` where T is Copy, which gives a share of the row (`shared_elements`) and what shuts it (`looking`)
+--     opened_first     a `&mut [T]` is opened with the first of several tokens; the others stay.        copied   a `&[T]` is had twice
+--     given_up         a `&mut [T]` is given up, which leaves what says its last list.        spent    it was given up to a callee
+--     lent_again       a whole row is lent as a `&[T]` for a lifetime ν of its own, by the law that makes a `&T`, until it comes back (`back_again`).
+--     lent_mut, back_mut       the like of a `&mut [T]`, which comes back with the callee's last list
 -- Assumes `Logic`.
 use mathlib.Core.Path.{◌≡◌, refl, sym, ap, subst}
 use Prim.Native.Nat.{ℕ, ◌+◌, ◌*◌, ◌<◌}

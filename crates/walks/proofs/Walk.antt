@@ -21,7 +21,8 @@ pub use contract.Lifetimes.{Lfts}
 pub use contract.Monad.{Fun, fact_i}
 pub use contract.Running.{tables}
 unfoldable pub use contract.Running.{tables_of}
-pub use types.Kit.{Given, Item, given, learn, ‵, raw, ◌⊛◌, ◌$◌, ◌∵◌, !, Go, Seq, runs, qed, by, move}
+pub use types.Logic.{Logic}
+pub use types.Kit.{Item, given, learn, ‵, raw, ◌⊛◌, ◌$◌, ◌∵◌, !, Go, Seq, runs, qed, by, move}
 pub use types.Kit.{keep, drop, split, join, use0, use1, use2, fsplit, fjoin, rewrite, at_ret}
 pub use types.Part.{whole, sub, look_in, agg}
 pub use types.Run.{look, look_raw, load, store, store_raw, assigns, assigns_last, forget, unit_lit, of_opd, bin, lit, addr, from, fld, hop}

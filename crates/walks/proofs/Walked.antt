@@ -1,7 +1,7 @@
 -- From a walk of a function's MIR to the statement that the function meets its contract.
 --     met              the walk starts from the tokens and what the parameters own, with their machine values written out, their relations in hand,
 --                      and each of its local's type
---     ends-owning      how it ends: from the tokens, what is had of the parameters at exit, what the result owns, and what the contract ensures
+--     ends_owning      how it ends: from the tokens, what is had of the parameters at exit, what the result owns, and what the contract ensures
 --     ends             the same with plain data as its result, which owns nothing
 --     drops, nothings, all_drop, had       of parameters of which nothing is kept: what is had of them, that it is enough, and that it is had
 -- Assumes `Logic`.
