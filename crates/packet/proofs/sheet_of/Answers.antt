@@ -1,13 +1,10 @@
 -- `sheet_of` meets its contract: each fact is a field, and the lasting time fits 32 bits.
-use borrow.Author.Rules.{rules}
 use Rattle.packet.specs.Packet.{sheet_of_fields}
-use Rattle.packet.proofs.Acceptance.{lasting_fits}
-use Rattle.packet.proofs.sheet_of.Statement.{statement}
-use Rattle.packet.proofs.sheet_of.Tie as tie
+use Rattle.packet.proofs.sheet_of.Goals as goal
 
-returns : tie.Need-returns
+pub returns : goal.returns
 unfolding sheet_of_fields
-returns c = let f = c.before.args.f in
+returns c = let f = c.args.f in
     λ i. record {
       urgent = f.urgent;
       update = f.update;
@@ -24,6 +21,3 @@ returns c = let f = c.before.args.f in
       certainty = f.certainty;
       response = f.response;
     }
-
-pub sheet_of_spec : {M : Type 1} → statement M
-sheet_of_spec = tie.close (tie.spec (λ c κs. search rules) (λ c. lasting_fits _ _ c.before.requires c.lasting.ensures) returns)
