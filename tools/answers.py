@@ -95,7 +95,7 @@ class Function:
 
     def step(self, place, field):
         """The new path of a field at a place, or None."""
-        field_ = field.replace("-", "_")
+        field_ = field.replace("-", "_").removesuffix("_lem")
         if field in ("args", "ranges", "requires", "type_inv", "lifetimes"):
             return field
         while place is not None:
@@ -255,6 +255,10 @@ def convert(crate, path, text, entry):
             lead, term = term[2:].split(".", 1)
             lead, term = lead.strip(), bare(term)
         if IDLE.match(term) and not (open_ and re.match("returns|.*requires", new)):
+            continue
+        # what a call's result is in an arm: the call's clause is had at the variant today, and the check finds it
+        if ".given" in term:
+            print(f"note: {where}: {new} is left to the check: {term}")
             continue
         lead = lead.split()
         term = f.turn(term, place, lead[0] if lead else "c").replace(".type-inv", ".type_inv")

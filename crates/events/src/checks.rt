@@ -9,7 +9,7 @@ use crate::{New, Refusal};
 use packet::{Fields, Packet};
 
 // What the checks come to: what the packet stores, or why it is refused.
-#[derive(Drop)]
+#[derive(Clone, Copy)]
 pub enum Checked {
     Passed(New),
     Refused(Refusal),

@@ -22,7 +22,7 @@ use plans::{Candidates, Plan};
 // An entry of the event table, laid out as C lays it out: a caller in C lends such entries. Its marks are bytes, as its memory may hold any
 // bytes; any byte but 0 is set.
 #[repr(C)]
-#[derive(Drop)]
+#[derive(Clone, Copy)]
 pub struct Entry {
     pub used: u8,
     pub key: u32,
@@ -35,13 +35,13 @@ pub struct Entry {
 }
 
 // A table of 64 entries, by value.
-#[derive(Drop)]
+#[derive(Clone, Copy)]
 pub struct Table {
     pub entries: [Entry; 64],
 }
 
 // What a packet that passed the checks before the table stores.
-#[derive(Drop)]
+#[derive(Clone, Copy)]
 pub struct New {
     pub key: u32,
     pub event: u32,
@@ -54,14 +54,14 @@ pub struct New {
 
 // What an event is known by: the key id and the event number. A caller in C lends room for such.
 #[repr(C)]
-#[derive(Drop)]
+#[derive(Clone, Copy)]
 pub struct EventId {
     pub key: u32,
     pub event: u32,
 }
 
 // Why a packet is refused: by the checks before the table, by the table, or by itself.
-#[derive(Drop)]
+#[derive(Clone, Copy)]
 pub enum Refusal {
     ClockOutOfRange,
     UnknownKey,
@@ -72,35 +72,35 @@ pub enum Refusal {
 }
 
 // The answer to a packet that was received.
-#[derive(Drop)]
+#[derive(Clone, Copy)]
 pub enum Receipt {
     Accepted,
     Refused(Refusal),
 }
 
 // The answer, and the table afterwards.
-#[derive(Drop)]
+#[derive(Clone, Copy)]
 pub struct Received {
     pub receipt: Receipt,
     pub table: Table,
 }
 
 // The running events of a table by value: how many they are, and room for 64, of which they take the first places.
-#[derive(Drop)]
+#[derive(Clone, Copy)]
 pub struct Running {
     pub count: usize,
     pub events: [EventId; 64],
 }
 
 // The answer to listing the running events into a room: how many they are, or that they have no room there.
-#[derive(Drop)]
+#[derive(Clone, Copy)]
 pub enum ListRunning {
     Count(usize),
     NoRoom,
 }
 
 // Where an event's first used entry stands.
-#[derive(Drop)]
+#[derive(Clone, Copy)]
 pub enum Position {
     At(usize),
     Nowhere,

@@ -5,7 +5,7 @@ ghost use Rattle.events.specs.Steps.{scanned, next_index, next_entry, scan_step,
 use crate::{Entry, New, Position, Refusal, entries};
 
 // An event's first used entry and its index, and the lowest free index. An index is the number of entries where there is none.
-#[derive(Drop)]
+#[derive(Clone, Copy)]
 pub struct Candidates {
     pub known: usize,
     pub free: usize,
@@ -13,7 +13,7 @@ pub struct Candidates {
 }
 
 // What a packet comes to: an entry to store at an index, or why it is refused.
-#[derive(Drop)]
+#[derive(Clone, Copy)]
 pub enum Plan {
     Store(usize, Entry),
     Refused(Refusal),

@@ -13,7 +13,7 @@ use crate::to_numbers::{cap_numbers, warn_numbers};
 use sheet::Found;
 
 // The sheet that numbers stand for, if they stand for one.
-#[derive(Drop)]
+#[derive(Clone, Copy)]
 pub enum NumbersSheet {
     Sheet(Found),
     NotSheet,

@@ -6,7 +6,7 @@ ghost use Rattle.packet.specs.Packet.{flag, coordinate, fields_of};
 use super::Fields;
 use super::bytes::{i32_at, u8_at, u16_at, u32_at, u64_at};
 
-#[derive(Drop)]
+#[derive(Clone, Copy)]
 struct Flags {
     urgent: bool,
     update: bool,
@@ -14,7 +14,7 @@ struct Flags {
     test: bool,
 }
 
-#[derive(Drop)]
+#[derive(Clone, Copy)]
 struct Message {
     timestamp: u64,
     event: u32,
@@ -22,7 +22,7 @@ struct Message {
     ttl: u16,
 }
 
-#[derive(Drop)]
+#[derive(Clone, Copy)]
 struct Hazard {
     major: u8,
     minor: u8,
@@ -32,14 +32,14 @@ struct Hazard {
     response: u8,
 }
 
-#[derive(Drop)]
+#[derive(Clone, Copy)]
 struct Times {
     onset: u64,
     expiry: u64,
     effective: u64,
 }
 
-#[derive(Drop)]
+#[derive(Clone, Copy)]
 struct Area {
     lat: i32,
     lon: i32,

@@ -15,7 +15,7 @@ mod layout;
 mod shape;
 
 // The fields of an ALERT packet. The TLV block and the signature are parts of the packet (`tlv_block`, `signature`).
-#[derive(Drop)]
+#[derive(Clone, Copy)]
 pub struct Fields {
     pub urgent: bool,
     pub update: bool,
@@ -41,7 +41,7 @@ pub struct Fields {
 }
 
 // Why a packet is refused.
-#[derive(Drop)]
+#[derive(Clone, Copy)]
 pub enum Fault {
     Short,
     NotWarn,
@@ -53,21 +53,21 @@ pub enum Fault {
 }
 
 // What a packet is: an ALERT with its fields, or refused.
-#[derive(Drop)]
+#[derive(Clone, Copy)]
 pub enum Packet {
     Alert(Fields),
     Refused(Fault),
 }
 
 // A packet's sheet, or why it is refused.
-#[derive(Drop)]
+#[derive(Clone, Copy)]
 pub enum PacketSheet {
     Sheet(WarnFacts),
     Refused(Fault),
 }
 
 // Whether a packet's circle holds a place; or why the packet, or the place, is refused.
-#[derive(Drop)]
+#[derive(Clone, Copy)]
 pub enum PacketPlace {
     Inside,
     Outside,

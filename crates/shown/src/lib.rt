@@ -10,7 +10,7 @@ ghost use Rattle.shown.specs.Slices.{sender_in, name_in, sheet_with};
 use sheet::{CapFacts, Span, WriteSheet, span_in};
 
 // The facts of a CAP sheet, with where its sender and its name stand in a text.
-#[derive(Drop)]
+#[derive(Clone, Copy)]
 pub struct Facts {
     pub facts: CapFacts,
     pub sender: Span,
@@ -18,7 +18,7 @@ pub struct Facts {
 }
 
 // A sheet that holds the text in which its sender and its name stand.
-#[derive(Drop)]
+#[derive(Clone, Copy)]
 pub struct ShownSheet<'a> {
     pub text: &'a [u8],
     pub facts: Facts,

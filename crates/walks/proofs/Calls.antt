@@ -1,16 +1,16 @@
 -- A call in a walk by hand, to the place where its result is stored.
 --     called           of any function, from the tokens and what its parameters own: its result, its tokens, what is said of the last values, and
 --                      what its contract ensures
---     calls-some       of a function whose result is plain data. φ is what the contract ensures
---     calls-equal      of a function whose result is plain data that the contract equates with x: the result is x
---     calls-plain      of a function of plain data whose result the contract equates with x: all that is asked is had for nothing, and the result is
+--     calls_some       of a function whose result is plain data. φ is what the contract ensures
+--     calls_equal      of a function whose result is plain data that the contract equates with x: the result is x
+--     calls_plain      of a function of plain data whose result the contract equates with x: all that is asked is had for nothing, and the result is
 --                      x
 -- The operands are read with what is asked in front of the context.
 -- Assumes `Logic`.
 use mathlib.Core.Path.{◌≡◌, sym, ap, subst}
 use mathlib.Core.List.{List, [], ◌∷◌}
 use seplogic.Ra.Ura.{Ura}
-use mir.Syntax.{Name, Place, Opd as Operand, Body, seq, call}
+use mir.Syntax.{Callee, Place, Opd as Operand, Body, seq, call}
 use mir.Val.{Val}
 use base.Logic.{SProp, ent, sep, emp, via, id⊢, emp∗, comm∗, mono∗, mono_r}
 use base.Fml.{Fml, fsep}
@@ -38,7 +38,7 @@ pub that : {M : Type 1} (𝓤 : Ura M) (φ ψ : Type 0) → (φ → ψ) → ent 
 that 𝓤 φ ψ f = fact_use 𝓤 φ (id⊢ 𝓤 (fact 𝓤 φ)) (λ x. fact_i 𝓤 ψ (fact 𝓤 φ) (f x))
 
 module _ {M : Type 1} {𝓤 : Ura M} {𝓛 : Logic 𝓤} {K : Type 0} {Γ : List (Item 𝓤)} {E : Env 𝓤 𝓛.H} {q : Post 𝓤 𝓛.H}
-    {f : Name} {xs : List Operand} {d : Place} {rest : Body} where
+    {f : Callee} {xs : List Operand} {d : Place} {rest : Body} where
   open 𝓛 use {H}
 
   pub called : K → (𝓣 : Tables 𝓤 H) (T : Ended) (c : Clauses 𝓤 T) → Triple 𝓤 (𝓣.C f) (triple_of 𝓛 T.signature (closing 𝓛 T c))
@@ -57,7 +57,7 @@ module _ {M : Type 1} {𝓤 : Ura M} {𝓛 : Logic 𝓤} {K : Type 0} {Γ : List
       use1 𝓛 (raw ((triple_of 𝓛 T.signature (closing 𝓛 T c)).pre y)) (via 𝓤 (sep 𝓤 Q (emp 𝓤))
       (via 𝓤 Q has (via 𝓤 (sep 𝓤 (emp 𝓤) Q) (emp∗ 𝓤 Q) (comm∗ 𝓤 (emp 𝓤) Q))) (mono_r 𝓤 Q req)) $
       calls_at t (fm_of 𝓤 H 𝓛.laws 𝓣) (triple_of 𝓛 T.signature (closing 𝓛 T c)) known y os (λ u.
-      use1 𝓛 (later (some (λ (r : Res T.signature y.0.0). (raw (alive 𝓛 T.signature y.0.0 y.0.1) ⊛ ‵ (O.own r (u ∷ [])))
+      use1 𝓛 (later (some (λ (r : Res T.signature y.0.0). (raw (alive 𝓛 T.signature y.0.0 y.0.1) ⊛ ‵ (O.own_val r (u ∷ [])))
       ⊛ some (λ (ws : Lasts T y.0.0 y.0.3). ‵ (lasts T y.0.0 y.0.3 ws) ⊛ raw
       ((c y.0.0 y.0.3).ensures y.1 r (at_exit T y.0.0 y.0.3 ws)))))) (id⊢ 𝓤 _) $
       await t tt $ pick t (λ r. split t $ split t $ move t (2 ∷ []) $ pick t (λ ws. split t $ move t (3 ∷ []) $

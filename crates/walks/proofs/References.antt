@@ -1,10 +1,10 @@
 -- A `&mut T` of plain data, in a walk by hand.
---     opened-ref       it is opened, which gives the value in its place.        closed-ref       it is closed at another value
+--     opened_ref       it is opened, which gives the value in its place.        closed_ref       it is closed at another value
 -- Assumes `Logic`.
 use mathlib.Core.Path.{refl}
 use mathlib.Core.List.{List, [], ◌∷◌}
 use seplogic.Ra.Ura.{Ura}
-use seplogic.Ra.TreeShare.{full_share}
+use base.Fraction.{full_share}
 use mir.Syntax.{Lifetime}
 use mir.Val.{Val}
 use base.Fml.{Lft, Share, Fml, flft, fobs, fauth, fobor}
@@ -22,7 +22,7 @@ use Rattle.walks.proofs.Types.{Plain}
 module _ (R : RattleType) (x : MutBor R.Denot) where
   -- what says that the reference is open
   abbrev pub opening_ref : Lft → Share → Fml
-  opening_ref κ q = fobor κ q (Body (mem R) x.ref_ptr.0 x.ref_ptr.1 x.name)
+  opening_ref κ q = fobor κ q (Body (mem R) x.ref_ptr.0 x.ref_ptr.1 x.ghost_name)
 
   abbrev pub noted_ref : Fml
   noted_ref = fobs x.ghost_name (R.coded.code x.now)
@@ -32,7 +32,7 @@ module _ (R : RattleType) (x : MutBor R.Denot) where
 
 -- the value y in its place
 abbrev pub in_place : {R : RattleType} → Plain R → MutBor R.Denot → R.Denot → Fml
-in_place {R} p x y = cell_at full_share R.mir (p.spelled.val y ∷ []) x.ptr.0 x.ptr.1
+in_place {R} p x y = cell_at full_share R.mir (p.spelled.val y ∷ []) x.ref_ptr.0 x.ref_ptr.1
 
 module _ {M : Type 1} {𝓤 : Ura M} {𝓛 : Logic 𝓤} {K : Type 0} {Γ : List (Item 𝓤)} {G : Goal 𝓤 𝓛.H} (t : K) where
   pub opened_ref : Soaks G → {R : RattleType} (p : Plain R) (ℓ : Lifetime) {κ : Lft} {q : Share} (x : MutBor R.Denot) (vs : List Val)

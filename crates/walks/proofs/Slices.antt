@@ -1,33 +1,36 @@
 -- A slice that is lent, in a walk by hand.
 --     opened, closed   a `&mut [T]` is opened, which gives the row of its elements, and is closed at another list of the same length.        looked,
---                      shut      the like of a `&[T]`, which gives a share of the row
---     opened-first     a `&mut [T]` is opened with the first of several tokens; the others stay.        copied   a `&[T]` is had twice
---     given-up         a `&mut [T]` is given up, which leaves what says its last list.        spent    it was given up to a callee
---     lent_again       a whole row is lent as a `&[T]` for a lifetime ν of its own, until it comes back (`back_again`).        lent_mut, back-mut       the
---                      like of a `&mut [T]`, which comes back with the callee's last list
+--                      shut      the like of a `&[T]` where T is Copy, which gives a share of the row (`shared_elements`) and what shuts it (`looking`)
+--     opened_first     a `&mut [T]` is opened with the first of several tokens; the others stay.        copied   a `&[T]` is had twice
+--     given_up         a `&mut [T]` is given up, which leaves what says its last list.        spent    it was given up to a callee
+--     lent_again       a whole row is lent as a `&[T]` for a lifetime ν of its own, by the law that makes a `&T`, until it comes back (`back_again`).
+--     lent_mut, back_mut       the like of a `&mut [T]`, which comes back with the callee's last list
 -- Assumes `Logic`.
 use mathlib.Core.Path.{◌≡◌, refl, sym, ap, subst}
 use Prim.Native.Nat.{ℕ, ◌+◌, ◌*◌, ◌<◌}
 use mathlib.Core.List.{List, [], ◌∷◌}
 use lib.ListN.{length, set, get_or}
 use seplogic.Ra.Ura.{Ura}
-use seplogic.Ra.TreeShare.{full_share}
+use base.Fraction.{full_share}
 use mir.Syntax.{Lifetime}
 use mir.Val.{Val}
-use base.Fml.{Lft, GName, Share, Fml, ftrue, fsep, feq, flft, fobs, fauth, fres, fobor, flent}
+use base.Fml.{Lft, Incl-refl, GName, Share, Fml, ftrue, fsep, feq, flft, fobs, fauth, fres, fobor, flent}
 use base.Logic.{sep, emp, id⊢}
 use types.Logic.{Logic}
 use types.Kit.{Goal, Soaks, Item, ‵, raw, ◌⊛◌, some, later, Seq, Step, step, ◌$◌, move, drop, rewrite, use0, use1, use2, split, join, pick, fsplit}
 use types.Kit.{fjoin, feq_i, feq_l, await}
 use types.Share.{arr_parts}
 use types.Tokens.{lft_new, lft_end, lent_back}
-use denote.RattleType.{RattleType}
-use denote.Laws.{Is, shows, Copy}
+use denote.RattleType.{RattleType, RowLaws}
+use denote.Copied.{Copied}
+use denote.Laws.{Is, shows}
 use denote.Memory.{mem, shares, cell_at}
 use denote.Signature.{Slot}
 use denote.Steps.{nothing, owned}
+use denote.Opens.{Shut}
 use denote.Shadow.{pure_i}
-use denote.Ref.{Bor, MutBor, at_last}
+use denote.Shares.{Shares}
+use denote.Ref.{Bor, MutBor, as_bor, at_last}
 use denote.Slice.{slice_val, shr_slice_vals, mut_slice_vals, MutSlice, ShrSlice, heres, Room, mut_slice_at, coded_holeys, finally, res-finally, shr_slice_copy}
 use denote.Lend.{Held, lends_shr_slice, lends_slice, slice_back}
 use types.SemTy.{cells, Arr}
@@ -48,10 +51,18 @@ module _ (R : RattleType) (x : MutBor (List R.Denot)) where
 
   -- the elements zs in their places
   abbrev pub elements : Share → List R.Denot → Fml
-  elements s zs = row R s zs x.ptr.0 x.ptr.1
+  elements s zs = row R s zs x.ref_ptr.0 x.ref_ptr.1
 
   abbrev pub part_of : Share → Fml
   part_of s = (arr_parts (shares R) (length x.now)).part s x.now x.ref_ptr.0 x.ref_ptr.1
+
+-- the elements of a `&[T]` in their places
+abbrev pub shared_elements : (R : RattleType) → Bor (List R.Denot) → Share → List R.Denot → Fml
+shared_elements R x s zs = row R s zs x.ref_ptr.0 x.ref_ptr.1
+
+-- what says that a `&[T]` is looked into, at the share s of its elements
+abbrev pub looking : {M : Type 1} {𝓤 : Ura M} (𝓛 : Logic 𝓤) (R : RattleType) → Bor (List R.Denot) → Lft → Share → Share → Item 𝓤
+looking 𝓛 R x κ q s = Shut 𝓛 κ q (shared_elements R x s x.now)
 
 module _ {M : Type 1} {𝓤 : Ura M} {𝓛 : Logic 𝓤} {K : Type 0} {Γ : List (Item 𝓤)} {G : Goal 𝓤 𝓛.H} (t : K) where
   open 𝓛 use {A}
@@ -85,22 +96,21 @@ module _ {M : Type 1} {𝓤 : Ura M} {𝓛 : Logic 𝓤} {K : Type 0} {Γ : List
   spent R ss k = fsplit t $ fsplit t $ move t (1 ∷ 2 ∷ []) $ feq_l t (λ long. drop t $ use0 𝓛 (‵ (nothings ss)) (had 𝓛 ss) $ move t (1 ∷ 0 ∷ []) $
       fjoin t $ k long)
 
-  pub looked : Soaks G → {R : RattleType} (p : Plain R) → Copy 𝓛 R → (ℓ : Lifetime) {κ : Lft} {q : Share} (x : Bor (List R.Denot))
+  pub looked : Soaks G → {R : RattleType} → Copied 𝓛 R → (ℓ : Lifetime) {κ : Lft} {q : Share} (x : Bor (List R.Denot))
       (vs : List Val) {P : Fml}
-      → ((s : Share) → Seq K 𝓛 (‵ (elements R x s x.now) ∷ ‵ (fobor κ q (part_of R x s)) ∷ Γ) G)
+      → ((s : Share) → Seq K 𝓛 (‵ (shared_elements R x s x.now) ∷ looking 𝓛 R x κ q s ∷ Γ) G)
       → Seq K 𝓛 ((‵ (flft κ q) ⊛ ‵ ftrue) ∷ ‵ (fsep ((ShrSlice ℓ κ R).own_val x vs) P) ∷ Γ) G
-  looked z {R} p cp ℓ x vs k = split t $ move t (2 ∷ []) $ fsplit t $ fsplit t $ drop t $ fsplit t $ drop t $ move t (0 ∷ 2 ∷ []) $
-      looks_slice t z R (Is R) (shows 𝓛 R) (λ e. p.spelled.val e ∷ []) p.spelled.tells cp x.now x.ref_ptr.0 x.ref_ptr.1
-      (λ s. move t (2 ∷ 3 ∷ 4 ∷ []) $ drop t $ drop t $ drop t $ k s)
+  looked z {R} c ℓ x vs k = split t $ move t (2 ∷ []) $ fsplit t $ fsplit t $ drop t $ move t (0 ∷ 2 ∷ []) $
+      looks_slice t z R c x.now x.ref_ptr.0 x.ref_ptr.1 (λ s. move t (2 ∷ 3 ∷ 4 ∷ []) $ drop t $ drop t $ drop t $ k s)
 
   -- and what the function ends with, of tokens
   pub shut : Soaks G → (R : RattleType) {κ : Lft} {q : Share} (s : Share) (x : Bor (List R.Denot))
-      → Step K 𝓛 ((‵ (flft κ q) ⊛ ‵ ftrue) ∷ Γ) G (‵ (elements R x s x.now) ∷ ‵ (fobor κ q (part_of R x s)) ∷ Γ) G
+      → Step K 𝓛 ((‵ (flft κ q) ⊛ ‵ ftrue) ∷ Γ) G (‵ (shared_elements R x s x.now) ∷ looking 𝓛 R x κ q s ∷ Γ) G
   shut z R s x = step (λ k. shuts_slice t z R s x.now x.ref_ptr.0 x.ref_ptr.1 $ nothing t $ move t (1 ∷ 0 ∷ []) $ join t $ k)
 
-  pub copied : (R : RattleType) (ℓ : Lifetime) {κ : Lft} (x : Bor (List R.Denot)) (vs : List Val)
+  pub copied : (R : RattleType) → RowLaws R → (ℓ : Lifetime) (κ : Lft) (x : Bor (List R.Denot)) (vs : List Val)
       → Step K 𝓛 (‵ ((ShrSlice ℓ κ R).own_val x vs) ∷ ‵ ((ShrSlice ℓ κ R).own_val x vs) ∷ Γ) G (‵ ((ShrSlice ℓ κ R).own_val x vs) ∷ Γ) G
-  copied R ℓ {κ} x vs = step (λ s. use1 𝓛 (‵ ((ShrSlice ℓ κ R).own_val x vs) ⊛ ‵ ((ShrSlice ℓ κ R).own_val x vs)) ((shr_slice_copy 𝓛 ℓ κ R).twice x vs) $
+  copied R L ℓ κ x vs = step (λ s. use1 𝓛 (‵ ((ShrSlice ℓ κ R).own_val x vs) ⊛ ‵ ((ShrSlice ℓ κ R).own_val x vs)) ((shr_slice_copy 𝓛 ℓ κ R L).twice x vs) $
       split t $ s)
 
   -- ---- an element in its place
@@ -131,17 +141,17 @@ module _ {M : Type 1} {𝓤 : Ura M} {𝓛 : Logic 𝓤} {K : Type 0} {Γ : List
       elem_put t R full_share ys i y (p.spelled.val y ∷ []) b o l $ s)
 
   -- ---- lent again for a call
-  pub lent_again : Soaks G → (R : RattleType) (ℓ : Lifetime) (x : Bor (List R.Denot)) → Room R (length x.now)
-      → ((ν : ℕ) (δ : GName) → Seq K 𝓛 (‵ ((ShrSlice ℓ (ν ∷ []) R).own_val (record { ref_ptr = x.ref_ptr; now = x.now }) (shr_slice_vals x)) ∷
+  pub lent_again : Soaks G → (R : RattleType) → ((ν : ℕ) → Shares 𝓛 R (ν ∷ [])) → (ℓ : Lifetime) (x : MutBor (List R.Denot)) → Room R (length x.now)
+      → ((ν : ℕ) → Seq K 𝓛 (‵ ((ShrSlice ℓ (ν ∷ []) R).own_val (as_bor x) (shr_slice_vals (as_bor x))) ∷
       (‵ (flft (ν ∷ []) full_share) ⊛ ‵ ftrue) ∷ ‵ (flent (ν ∷ []) (part_of R x full_share)) ∷ Γ) G)
       → Seq K 𝓛 (‵ (elements R x full_share x.now) ∷ Γ) G
-  lent_again z R ℓ x g k = feq_i t ℕ (length x.now) (length x.now) refl $ fjoin t $ lft_new t z (λ ν. move t (1 ∷ []) $
-      use1 𝓛 (later (some (λ (δ : GName). ‵ ((ShrSlice ℓ (ν ∷ []) R).own_val (record { ref_ptr = x.ref_ptr; now = x.now }) (shr_slice_vals x)) ⊛ ‵
-      (flent (ν ∷ []) (part_of R x full_share)))))
-      (lends_shr_slice 𝓛 R ℓ (ν ∷ []) full_share x.now x.ref_ptr.0 x.ref_ptr.1 g) $ await t z $
-      pick t (λ δ. split t $ nothing t $ move t (3 ∷ 0 ∷ []) $ join t $ move t (1 ∷ []) $ k ν δ))
+  lent_again z R sh ℓ x g k = feq_i t ℕ (length x.now) (length x.now) refl $ fjoin t $ lft_new t z (λ ν. move t (1 ∷ 0 ∷ []) $
+      use2 𝓛 (later ((‵ ((ShrSlice ℓ (ν ∷ []) R).own_val (as_bor x) (shr_slice_vals (as_bor x))) ⊛ ‵ (flent (ν ∷ []) (part_of R x full_share))) ⊛
+      ‵ (flft (ν ∷ []) full_share)))
+      (lends_shr_slice 𝓛 R ℓ (ν ∷ []) full_share x.now x.ref_ptr.0 x.ref_ptr.1 g (ν ∷ []) (sh ν) ((ν ∷ [], full_share) ∷ []) (Incl-refl (ν ∷ []))
+      (Incl-refl (ν ∷ []))) $ await t z $ split t $ split t $ nothing t $ move t (3 ∷ 0 ∷ []) $ join t $ move t (1 ∷ []) $ k ν)
 
-  pub back_again : Soaks G → (R : RattleType) (x : Bor (List R.Denot)) {ν : ℕ} {P : Fml}
+  pub back_again : Soaks G → (R : RattleType) (x : MutBor (List R.Denot)) {ν : ℕ} {P : Fml}
       → Step K 𝓛 (‵ (elements R x full_share x.now) ∷ Γ) G (raw (sep 𝓤 (A.lft (ν ∷ []) full_share) (emp 𝓤)) ∷ ‵ P ∷ ‵
       (flent (ν ∷ []) (part_of R x full_share)) ∷ Γ) G
   back_again z R x {ν} = step (λ s. use1 𝓛 (‵ (flft (ν ∷ []) full_share) ⊛ ‵ ftrue) (id⊢ 𝓤 _) $ split t $ lft_end t z $ move t (0 ∷ 3 ∷ []) $

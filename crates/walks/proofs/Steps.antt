@@ -1,6 +1,6 @@
 -- Short forms for a walk by hand, of statements on whole locals and their fields.
 --     local            an operand that is a local.        part     one that is a field of a local
---     sets, resets     a value goes into a local that is empty, or that holds another.        lands-in, lands-over      the same of a call's result
+--     sets, resets     a value goes into a local that is empty, or that holds another.        lands_in, lands_over      the same of a call's result
 -- n is where the local stands in the context.
 -- Assumes `Logic`.
 use mathlib.Core.Path.{◌≡◌}
@@ -9,7 +9,7 @@ use mathlib.Core.Option.{some}
 use mathlib.Core.List.{List, [], ◌∷◌}
 use lib.Dec.{T}
 use seplogic.Ra.Ura.{Ura}
-use seplogic.Ra.TreeShare.{full_share}
+use base.Fraction.{full_share}
 use mir.Syntax.{Ty, field, place, copy, Rv as RValue, Body, seq, assign}
 use mir.Val.{Val, WT, has_ty}
 use base.Fml.{Share, fat, froom}

@@ -22,7 +22,7 @@ use prog.Wp.{Heap, Out, next, exits, Env, after_seq, after_block, after_turn, Ca
 use types.Logic.{Logic}
 use sound.Laws.{Laws}
 use sound.Loop.{loop_rule}
-use types.Kit.{Item, ⋆, Post, any_q, post, prop, runs, Seq, step, ◌$◌}
+use types.Kit.{Item, ⋆, Post, any_q, post, prop, runs, Seq, ◌$◌}
 use types.Run.{Opd, Cases, first, branches, switches, skips, jumps}
 
 module _ {M : Type 1} (𝓤 : Ura M) (H : Heap 𝓤) (L : Laws 𝓤 H) (𝓣 : Tables 𝓤 H) (E : Env 𝓤 H) (turn : Body) (Left : Out → SProp 𝓤) (At : ℕ → SProp 𝓤)

@@ -6,10 +6,10 @@ pub use mathlib.Core.List.{List, [], ◌∷◌}
 pub use lib.ListN.{length, get_or, set}
 pub use lib.Dec.{ltb→lt, nltb→le}
 pub use seplogic.Ra.Ura.{Ura}
-pub use seplogic.Ra.TreeShare.PosShare.{left as PosShare·left}
-pub use seplogic.Ra.TreeShare.PosShare.{right as PosShare·right}
-pub use seplogic.Ra.TreeShare.{full_share}
-pub use mir.Syntax.{Name, value_local, place, field, copy, rv_opd, assign, call, return, seq, Fn, named, erased, w8, w32, w64}
+pub use base.Fraction.{left as PosShare·left}
+pub use base.Fraction.{right as PosShare·right}
+pub use base.Fraction.{full_share}
+pub use mir.Syntax.{Callee, value_local, place, field, copy, rv_opd, assign, call, return, seq, Fn, named, erased, w8, w32, w64}
 pub use mir.Val.{Val, Fits, vint, vbool, vptr}
 pub use base.Logic.{SProp, ent, emp, id⊢, guard_i}
 pub use base.Fml.{Lft, Share, Fml, ftrue, fsep, flft, fobor}
@@ -19,9 +19,10 @@ pub use prog.Wp.{Heap, Env, WpFn, Tables}
 pub use ghost.Atoms.{Atoms}
 pub use contract.Lifetimes.{Lfts}
 pub use contract.Monad.{Fun, fact_i}
-pub use contract.Running.{given_of, tables}
+pub use contract.Running.{tables}
 unfoldable pub use contract.Running.{tables_of}
-pub use types.Kit.{Given, Item, given, learn, ‵, raw, ◌⊛◌, ◌$◌, ◌∵◌, !, Go, Seq, runs, qed, by, move}
+pub use types.Logic.{Logic}
+pub use types.Kit.{Item, given, learn, ‵, raw, ◌⊛◌, ◌$◌, ◌∵◌, !, Go, Seq, runs, qed, by, move}
 pub use types.Kit.{keep, drop, split, join, use0, use1, use2, fsplit, fjoin, rewrite, at_ret}
 pub use types.Part.{whole, sub, look_in, agg}
 pub use types.Run.{look, look_raw, load, store, store_raw, assigns, assigns_last, forget, unit_lit, of_opd, bin, lit, addr, from, fld, hop}

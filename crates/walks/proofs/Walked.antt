@@ -1,7 +1,7 @@
 -- From a walk of a function's MIR to the statement that the function meets its contract.
 --     met              the walk starts from the tokens and what the parameters own, with their machine values written out, their relations in hand,
 --                      and each of its local's type
---     ends-owning      how it ends: from the tokens, what is had of the parameters at exit, what the result owns, and what the contract ensures
+--     ends_owning      how it ends: from the tokens, what is had of the parameters at exit, what the result owns, and what the contract ensures
 --     ends             the same with plain data as its result, which owns nothing
 --     drops, nothings, all_drop, had       of parameters of which nothing is kept: what is had of them, that it is enough, and that it is had
 -- Assumes `Logic`.
@@ -73,9 +73,9 @@ module _ {M : Type 1} {𝓤 : Ura M} (𝓛 : Logic 𝓤) (T : Ended) (hs : Stays
     Ensures = (c y.0.0 y.0.3).ensures y.1 r (at_exit T y.0.0 y.0.3 ws)
 
     pub ends_owning : (u : Val) → ent 𝓤 (sep 𝓤 (alive 𝓛 T.signature y.0.0 y.0.1)
-        (sep 𝓤 (sem 𝓛 Has) (sep 𝓤 (sem 𝓛 (O.own r (u ∷ []))) Ensures))) ((walk_of 𝓛 T hs c).post y u)
+        (sep 𝓤 (sem 𝓛 Has) (sep 𝓤 (sem 𝓛 (O.own_val r (u ∷ []))) Ensures))) ((walk_of 𝓛 T hs c).post y u)
     ends_owning u = via 𝓤 (Ending 𝓛 T hs c y u r ws)
-        (qed 𝓛 (raw (alive 𝓛 T.signature y.0.0 y.0.1) ∷ ‵ Has ∷ ‵ (O.own r (u ∷ [])) ∷ raw Ensures ∷ []) ∵ move ! (1 ∷ 2 ∷ []) $ join ! $
+        (qed 𝓛 (raw (alive 𝓛 T.signature y.0.0 y.0.1) ∷ ‵ Has ∷ ‵ (O.own_val r (u ∷ [])) ∷ raw Ensures ∷ []) ∵ move ! (1 ∷ 2 ∷ []) $ join ! $
         move ! (1 ∷ 0 ∷ []) $ join ! $ done !)
         (ends_at 𝓛 T hs c y u r ws fits)
 

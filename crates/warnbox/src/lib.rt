@@ -16,7 +16,7 @@ pub mod tables; // tables.rt: the event table as the caller lends it
 mod writing; // writing.rt: the sentence of a sheet, the answer as numbers
 
 // What a function gives back: the number of a refusal, 0 for none, and the value.
-#[derive(Drop)]
+#[derive(Clone, Copy)]
 pub struct Reply {
     pub number: u8,
     pub value: usize,

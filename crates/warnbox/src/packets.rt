@@ -18,7 +18,7 @@ use sheet::Span;
 // The fields of a packet, and where its TLV block, the bytes that are signed and the signature stand in it. C lends it, so there is no `bool`
 // whose byte might be neither 0 nor 1, and no hole in its layout: a flag is 1 or 0.
 #[repr(C)]
-#[derive(Drop)]
+#[derive(Clone, Copy)]
 pub struct PacketParts {
     pub timestamp: u64,
     pub onset: u64,
@@ -89,7 +89,7 @@ fn parts_left(packet: &[u8], read: Packet, before: PacketParts) -> PacketParts
 }
 
 // What reading a packet gives back: the number of a refusal, 0 for none, and the parts that are left.
-#[derive(Drop)]
+#[derive(Clone, Copy)]
 struct PacketRead {
     number: u8,
     parts: PacketParts,

@@ -17,7 +17,7 @@ use parts::CapSheet;
 use sheet::Found;
 
 // A sheet, whose sender and name are parts of the text it was drawn from; or why there is none (number, offset).
-#[derive(Drop)]
+#[derive(Clone, Copy)]
 pub enum Drawn {
     Sheet(Found),
     Refused(u8, usize),

@@ -1,2 +1,0 @@
-mod Sheets
-mod Parts
