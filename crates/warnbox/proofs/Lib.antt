@@ -5,3 +5,4 @@ pub mod PacketSheets
 mod TableTypes
 pub mod Demand3
 pub mod HandedAgain
+pub mod Listed
