@@ -9,7 +9,7 @@ use lib.Dec.{T, eqb, leb, ltb}
 use Rattle.text.specs.Logic.{by_test, cond_cases, below, below_both}
 use Rattle.text.specs.Answers.{gives}
 use Rattle.schema.specs.Classes as class
-use Rattle.schema.specs.Sequences.{particles, index_in, next_of, container_of, first_state, before, over, states, classes}
+use Rattle.schema.specs.Sequences.{particles, index_in, next_of, container_of, first_state, over, states, classes}
 use Rattle.schema.proofs.Table.{inside}
 use Rattle.document.specs.Elements.{Element, opened, text, closed, is_start, total}
 use Rattle.document.specs.Documents.{document_of}

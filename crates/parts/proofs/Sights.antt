@@ -1,14 +1,10 @@
 -- What a text shows of a place while its rule is tested: a shape's text answers both at once.
 use mathlib.Core.Path.{◌≡◌, refl, sym, ap, ◌∙◌}
 use mathlib.Core.Bool.{Bool, true, false, cond, not, ◌&&◌, false≢true}
-use mathlib.Core.List.{List, [], ◌∷◌}
-use mathlib.Core.Logic.{⊎_elim}
+use mathlib.Core.List.{List}
 use Prim.Native.Nat.{ℕ}
-use native.Mathlib.Omega.{arith}
 use borrow.Author.Tests.{eqb-true}
 use lib.Dec.{eqb}
-use types.Run.{OneOf}
-use denote.Enum.Declared.{tag_of}
 use Rattle.text.specs.Parts.{part}
 use Rattle.text.specs.Answers.{Answer, answer_number}
 use Rattle.text.specs.Logic.{by_test, and_left, and_right}
@@ -25,7 +21,6 @@ use Rattle.document.specs.declared.Step.TheVariants.{Next, Refused}
 use Rattle.document.specs.Elements.{Element, opened, text, closed, fold}
 use Rattle.document.specs.Documents.{elements_of}
 use Rattle.document.specs.Tested.{event_rule, tested}
-use Rattle.document.specs.contracts.Event.{the_type}
 use Rattle.parts.specs.declared.Shapes.{Shapes}
 use Rattle.parts.specs.declared.Shown.{Shown}
 use Rattle.parts.specs.declared.Shown.TheVariants.{Nothing, Shape}
@@ -73,16 +68,16 @@ module _ (p : Place) (c : ℕ) (t : List ℕ) where
 -- ---- an event that is no text, or opens nothing; by its index in the declaration
 
 pub no_text :
-    (l : List ℕ) (asked named : Bool) (p : Place) (e : Event) → OneOf (0 ∷ 1 ∷ 3 ∷ []) (tag_of the_type e)
+    (l : List ℕ) (asked named : Bool) (p : Place) (e : Event) → ((c from until : ℕ) → e ≡ Text c from until → ⊥)
     → sight.Seen (shown_tag asked e) ≡ sight_of l e (shown_in asked p named (elements_of l e))
 no_text l asked named p Silent h = refl
 no_text l asked named p (Opened c q) h = refl
-no_text l asked named p (Text c from until) h = absurd (⊎_elim (λ z. omega arith) (⊎_elim (λ z. omega arith) (λ z. omega arith)) h)
+no_text l asked named p (Text c from until) h = absurd (h c from until refl)
 no_text l asked named p (Closed c) h = ap sight.Seen (sym (cond_same asked Nothing))
 
-pub no_start : (asked : Bool) (e : Event) → OneOf (0 ∷ 2 ∷ 3 ∷ []) (tag_of the_type e) → Nothing ≡ shown_tag asked e
+pub no_start : (asked : Bool) (e : Event) → ((c q : ℕ) → e ≡ Opened c q → ⊥) → Nothing ≡ shown_tag asked e
 no_start asked Silent h = refl
-no_start asked (Opened c q) h = absurd (⊎_elim (λ z. omega arith) (⊎_elim (λ z. omega arith) (λ z. omega arith)) h)
+no_start asked (Opened c q) h = absurd (h c q refl)
 no_start asked (Text c from until) h = refl
 no_start asked (Closed c) h = refl
 
