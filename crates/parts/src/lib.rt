@@ -29,14 +29,14 @@ pub struct Facts {
 }
 
 // What a shape is.
-#[derive(Drop)]
+#[derive(Clone, Copy)]
 pub enum ShapeKind {
     Polygon,
     Circle,
 }
 
 // Which shape of a part: the position of its area among the part's areas, and its own among the shapes of its kind in that area, both from 1.
-#[derive(Drop)]
+#[derive(Clone, Copy)]
 pub struct ShapeAt {
     pub area: usize,
     pub kind: ShapeKind,
@@ -108,7 +108,7 @@ pub enum CapPlace {
 }
 
 // Why a part holds a place, by the first shape that does, or doesn't, by the number of its shapes; or why there is no answer, as above.
-#[derive(Drop)]
+#[derive(Clone, Copy)]
 pub enum CapWhy {
     Inside(ShapeAt),
     Outside(usize),
