@@ -49,6 +49,7 @@ fn new_of(clock: u64, fields: Fields) -> New
 }
 
 // The checks of a packet's fields.
+#[tactic(auto, unfolding(crate::specs::Table::checked))]
 fn check_fields(fields: Fields, keys: &[u32], verdict: bool, clock: u64) -> Checked
     ensures { checked_answer result ≡ checked keys.now verdict clock fields }
 {
