@@ -184,6 +184,7 @@ pub fn read_radius(text: &[u8]) -> Radius
 }
 
 // The coordinate that a text writes.
+#[tactic(auto, using(crate::proofs::Coordinates::no_degrees, crate::proofs::Coordinates::degrees_part, crate::proofs::Coordinates::degrees_whole))]
 fn whole_text(text: &[u8], limit: u64) -> Degrees
     requires { limit ≤ 1_800_000_000 }
     ensures { degrees_answer result ≡ degrees_of limit text.now }

@@ -1,5 +1,5 @@
 -- One turn of the loop over a text: the line at the offset i is a read-back, with n before it.
-use mathlib.Core.Path.{◌≡◌, sym, ap, ◌∙◌}
+use mathlib.Core.Path.{◌≡◌, refl, sym, ap, ◌∙◌}
 use mathlib.Core.List.{List}
 use mathlib.Core.Option.{Option}
 use Prim.Native.Nat.{ℕ, ◌+◌, ◌≤◌, ◌<◌}
@@ -44,3 +44,11 @@ module _ (t : List ℕ) (i : ℕ) {r : Line} (q : r ≡ line_at i (drop i t)) wh
 
   pub turn_stop : (k n a : ℕ) → i < length t → r ≡ line.Other → refuses 23 i ≡ answer_from t k i n a
   turn_stop k n a h e = sym (loop_stop t k i n (found_at a (drop a t)) h (line_none i (drop i t) (sym q ∙ e)))
+
+-- the same of the line itself, in a form that tactics apply
+module _ (t : List ℕ) (i : ℕ) {f : Found} {size : ℕ} where
+  pub turn_grows : line_at i (drop i t) ≡ line.Sentence f size → i ≤ length t → i < i + size
+  turn_grows e h = (turn_room t i {r = line_at i (drop i t)} refl e h).0
+
+  pub turn_within : line_at i (drop i t) ≡ line.Sentence f size → i ≤ length t → i + size ≤ length t
+  turn_within e h = (turn_room t i {r = line_at i (drop i t)} refl e h).1

@@ -14,6 +14,7 @@ use crate::line::{found_at, line_at};
 use sheet::{Line, ReadBack};
 
 // Reads a text of read-backs, and gives their number and the sheet of the k-th, counted from 1; asked for 0, the number only.
+#[tactic(auto, using(crate::proofs::Turns::turn_grows, crate::proofs::Turns::turn_within))]
 pub fn read_back(text: &[u8], k: usize) -> ReadBack
     ensures { read_answer result ≡ read_back text.now k }
 {

@@ -1,11 +1,11 @@
 -- One turn of the list of running events: what is counted and what the room holds after one entry more.
-use Rattle.std.proofs.Common.{◌≡◌, ◌∙◌, sym, ap, refl, Bool, true, false, ◌&&◌, ℕ, ◌+◌, ◌<◌, List, length, get_or, set}
+use Rattle.std.proofs.Common.{◌≡◌, ◌∙◌, sym, ap, Bool, true, false, ◌&&◌, ℕ, ◌+◌, ◌<◌, List, length, get_or, set}
 use lib.Dec.{ltb}
 use borrow.Author.Tests.{ne_eqb, eq-eqb}
 use Rattle.events.specs.declared.Entry.{Entry}
 use Rattle.events.specs.declared.EventId.{EventId}
 use Rattle.events.specs.Table.{blank, index_of}
-use Rattle.events.specs.Running.{event_of, is_first, runs_at, running_to}
+use Rattle.events.specs.Running.{event_of, runs_at, running_to}
 use Rattle.events.specs.Steps.{is_active}
 use Rattle.events.proofs.Listing.{running_miss}
 use Rattle.events.proofs.ListedRoom.{room_at, room_length, room_miss, room_stored, room_full, count_hit, runs_first, runs_later, runs_not}

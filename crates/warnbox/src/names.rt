@@ -7,12 +7,7 @@ ghost use Rattle.warnbox.specs.Version.{version};
 use crate::replies::name_reply;
 
 // Writes the name of a refusal's number; the value is the name's end.
-pub fn warnbox_refusal_name(
-    buffer: &mut [u8],
-    start: usize,
-    number: u8,
-    value: &mut usize,
-) -> u8
+pub fn warnbox_refusal_name(buffer: &mut [u8], start: usize, number: u8, value: &mut usize) -> u8
     ensures { (result ≡ (reply (naming buffer.old start number)).number)
         × (value.new ≡ (reply (naming buffer.old start number)).value)
         × (buffer.new ≡ after_name buffer.old start number) }

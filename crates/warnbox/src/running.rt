@@ -51,12 +51,7 @@ pub fn list_running(room: &mut [EventId], entries: &[Entry], time: u64) -> ListR
 }
 
 // Lists the running events; the value is how many they are.
-pub fn warnbox_running(
-    room: &mut [EventId],
-    entries: &[Entry],
-    time: u64,
-    value: &mut usize,
-) -> u8
+pub fn warnbox_running(room: &mut [EventId], entries: &[Entry], time: u64, value: &mut usize) -> u8
     ensures { (result ≡ (reply (listing room.old (running time entries.now))).number)
         × (value.new ≡ (reply (listing room.old (running time entries.now))).value)
         × (room.new ≡ after_listing room.old (running time entries.now)) }

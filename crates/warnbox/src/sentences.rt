@@ -98,12 +98,7 @@ fn numbers_left(read: ReadBack, before: [u64; 15]) -> [u64; 15]
 }
 
 // Gives the sheet of a read-back of a text, counted from 1; the value is the number of read-backs.
-pub fn warnbox_read_back(
-    text: &[u8],
-    k: usize,
-    sheet: &mut [u64; 15],
-    value: &mut usize,
-) -> u8
+pub fn warnbox_read_back(text: &[u8], k: usize, sheet: &mut [u64; 15], value: &mut usize) -> u8
     ensures { (result ≡ (reply (giving count_of (read_back text.now k))).number)
         × (value.new ≡ (reply (giving count_of (read_back text.now k))).value)
         × (sheet.new ≡ numbers_read sheet.old (read_back text.now k)) }

@@ -10,12 +10,6 @@ use Rattle.reader.proofs.read_back.Goals as goal
 pub loop-i-init : goal.loop-i-init
 loop-i-init c = (omega arith, omega arith, loop_start c.args.text.now c.args.k _)
 
-pub overflow_add-i : goal.overflow_add-i
-overflow_add-i c = let r = turn_room c.args.text.now c.loop-i.i c.line_at.ensures c.in-Sentence.is c.loop-i.invariant.1 in omega arith
-
-pub loop-i-smaller-then-n-k : goal.loop-i-smaller-then-n-k
-loop-i-smaller-then-n-k c = let r = turn_room c.args.text.now c.loop-i.i c.line_at.ensures c.in-Sentence.is c.loop-i.invariant.1 in omega arith
-
 pub loop-i-preserved-then-n-k : goal.loop-i-preserved-then-n-k
 loop-i-preserved-then-n-k c = let a = c.args in
     let r = turn_room c.args.text.now c.loop-i.i c.line_at.ensures c.in-Sentence.is c.loop-i.invariant.1 in
@@ -24,12 +18,6 @@ loop-i-preserved-then-n-k c = let a = c.args in
       r.1,
       turn_asked a.text.now c.loop-i.i c.line_at.ensures e a.k c.loop-i.n c.loop-i.asked c.if-n-k.true ∙ c.loop-i.invariant.2,
     )
-
-pub overflow_add-i-else-n-k : goal.overflow_add-i-else-n-k
-overflow_add-i-else-n-k c = let r = turn_room c.args.text.now c.loop-i.i c.line_at.ensures c.in-Sentence.is c.loop-i.invariant.1 in omega arith
-
-pub loop-i-smaller : goal.loop-i-smaller
-loop-i-smaller c = let r = turn_room c.args.text.now c.loop-i.i c.line_at.ensures c.in-Sentence.is c.loop-i.invariant.1 in omega arith
 
 pub loop-i-preserved : goal.loop-i-preserved
 loop-i-preserved c = let a = c.args in

@@ -1,4 +1,4 @@
-use Rattle.std.proofs.Common.{◌∙◌, sym, ap, refl, arith, length, ◌<◌}
+use Rattle.std.proofs.Common.{sym, refl, length, ◌<◌}
 use borrow.Author.Rules.{rules}
 use Rattle.events.proofs.Outcomes.{answer_and_entries, stored_is, refused_is, store_within}
 use Rattle.warnbox.proofs.tables.accept.Goals as goal
