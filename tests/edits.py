@@ -37,7 +37,7 @@ def main(asked):
     wanted = {(edit.split("/")[-3], os.path.basename(edit)) for edit in found}
     wanted = {it for it in wanted if not asked or it[0] in asked}
     names = sorted({it[0] for it in wanted})
-    with tempfile.TemporaryDirectory(prefix="edits-", dir=os.path.dirname(TOP)) as room:
+    with tempfile.TemporaryDirectory(prefix="edits-") as room:
         copied(room, names)
         run = subprocess.run(["rt", "must-fail", *names], cwd=room, stdout=subprocess.PIPE, stderr=subprocess.STDOUT, text=True)
     refused = set()
