@@ -10,4 +10,4 @@ pub returns-then-n-start-2 : goal.returns-then-n-start-2
 returns-then-n-start-2 c = no_room _ _ _ (omega arith)
 
 pub returns : goal.returns
-returns c = has_room _ _ _ (omega arith) c.put-end.ensures
+returns c = has_room _ _ _ (omega arith) c.put.ensures
