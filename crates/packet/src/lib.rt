@@ -4,6 +4,7 @@
 
 ghost use Rattle.std.specs.Prelude.{◌≡◌, true, ◌-◌, length};
 ghost use Rattle.words.specs.Duration.{is_lasting};
+ghost use Rattle.packet.specs.declared.PlaceFault.TheVariants.{Packet};
 ghost use Rattle.packet.specs.Packet.{tlv_of, signature_of, tlv_span, signature_span, signed_span, lasting_of, packet_of, fault_number, packet_answer, sheet_of_fields, packet_sheet, sheet_answer, packet_place, place_answer};
 
 use coordinates::Place;
@@ -41,7 +42,7 @@ pub struct Fields {
 }
 
 // Why a packet is refused.
-#[derive(Clone, Copy)]
+#[derive(Clone, Copy, Debug, PartialEq, Eq)]
 pub enum Fault {
     Short,
     NotWarn,
@@ -52,27 +53,36 @@ pub enum Fault {
     Lasting,
 }
 
-// What a packet is: an ALERT with its fields, or refused.
-#[derive(Clone, Copy)]
-pub enum Packet {
-    Alert(Fields),
-    Refused(Fault),
-}
-
-// A packet's sheet, or why it is refused.
-#[derive(Clone, Copy)]
-pub enum PacketSheet {
-    Sheet(WarnFacts),
-    Refused(Fault),
-}
-
-// Whether a packet's circle holds a place; or why the packet, or the place, is refused.
-#[derive(Clone, Copy)]
-pub enum PacketPlace {
-    Inside,
-    Outside,
+// Why a place is on no side of a packet's circle: it is out of range, or the packet is refused.
+#[derive(Clone, Copy, Debug, PartialEq, Eq)]
+pub enum PlaceFault {
     OutOfRange,
-    Refused(Fault),
+    Packet(Fault),
+}
+
+// Document 01's number for a fault.
+impl From<Fault> for u8 {
+    ghost from_gives = { λ fault number. number ≡ fault_number fault };
+
+    fn from(fault: Fault) -> u8 {
+        match fault {
+            Fault::Short => 1,
+            Fault::NotWarn => 2,
+            Fault::Version => 3,
+            Fault::NotAlert => 4,
+            Fault::Long => 5,
+            Fault::Range => 6,
+            Fault::Lasting => 7,
+        }
+    }
+}
+
+impl From<Fault> for PlaceFault {
+    ghost from_gives = { λ fault place_fault. place_fault ≡ Packet fault };
+
+    fn from(fault: Fault) -> PlaceFault {
+        PlaceFault::Packet(fault)
+    }
 }
 
 // How many bytes stand before the last n of a packet; 0 where it has fewer than n.
@@ -130,20 +140,21 @@ pub fn signature(p: &[u8]) -> &[u8]
 }
 
 // The fields of an ALERT packet, or why it is refused.
-pub fn read_packet(p: &[u8]) -> Packet
+#[tactic(auto, unfolding(crate::specs::Packet::packet_of))]
+pub fn read_packet(p: &[u8]) -> Result<Fields, Fault>
     ensures { packet_answer result ≡ packet_of p.now }
 {
     if p.len() < 8 {
-        return Packet::Refused(Fault::Short);
+        return Err(Fault::Short);
     }
     if !checks::is_warn(p) {
-        return Packet::Refused(Fault::NotWarn);
+        return Err(Fault::NotWarn);
     }
     if bytes::u8_at(p, 0x04) != 1 {
-        return Packet::Refused(Fault::Version);
+        return Err(Fault::Version);
     }
     if !layout::flag(p, 0) {
-        return Packet::Refused(Fault::NotAlert);
+        return Err(Fault::NotAlert);
     }
     checks::read_alert(p)
 }
@@ -172,38 +183,19 @@ fn sheet_of(f: Fields) -> WarnFacts
 }
 
 // The sheet of a packet, or why the packet is refused.
-pub fn packet_sheet(p: &[u8]) -> PacketSheet
+#[tactic(auto, using(crate::proofs::Acceptance::lasts_read), unfolding(crate::specs::Packet::packet_sheet))]
+pub fn packet_sheet(p: &[u8]) -> Result<WarnFacts, Fault>
     ensures { sheet_answer result ≡ packet_sheet p.now }
 {
-    let read = read_packet(p);
-    match read {
-        Packet::Alert(f) => PacketSheet::Sheet(sheet_of(f)),
-        Packet::Refused(fault) => PacketSheet::Refused(fault),
-    }
+    let fields = read_packet(p)?;
+    Ok(sheet_of(fields))
 }
 
 // Whether a packet's circle holds a place; or why the packet, and then the place, is refused.
-pub fn packet_place(p: &[u8], place: Place) -> PacketPlace
+#[tactic(auto, unfolding(crate::specs::Packet::packet_place))]
+pub fn packet_place(p: &[u8], place: Place) -> Result<bool, PlaceFault>
     ensures { place_answer result ≡ packet_place p.now place }
 {
-    let read = read_packet(p);
-    match read {
-        Packet::Alert(f) => shape::place_in(f, place),
-        Packet::Refused(fault) => PacketPlace::Refused(fault),
-    }
-}
-
-// Document 01's number for a fault.
-pub fn fault_number(fault: Fault) -> u8
-    ensures { result ≡ fault_number fault }
-{
-    match fault {
-        Fault::Short => 1,
-        Fault::NotWarn => 2,
-        Fault::Version => 3,
-        Fault::NotAlert => 4,
-        Fault::Long => 5,
-        Fault::Range => 6,
-        Fault::Lasting => 7,
-    }
+    let fields = read_packet(p)?;
+    shape::place_in(fields, place)
 }

@@ -2,7 +2,7 @@
 ghost use Rattle.std.specs.Prelude.{◌≡◌, ◌*◌, ◌≤◌};
 ghost use Rattle.packet.specs.Packet.{epicentre, placed_in, place_answer};
 
-use super::{Fields, PacketPlace};
+use super::{Fields, PlaceFault};
 use coordinates::{Inclusion, Place};
 
 pub fn epicentre(f: Fields) -> Place
@@ -22,16 +22,16 @@ fn metres(radius: u16) -> u32
 }
 
 // Whether the circle of a packet's fields holds a place.
-pub fn place_in(f: Fields, place: Place) -> PacketPlace
+pub fn place_in(f: Fields, place: Place) -> Result<bool, PlaceFault>
     ensures { place_answer result ≡ placed_in f place }
 {
     if !coordinates::in_range(place) {
-        return PacketPlace::OutOfRange;
+        return Err(PlaceFault::OutOfRange);
     }
     let side = circle::around_holds(epicentre(f), metres(f.radius), place);
     match side {
-        Inclusion::Inside => PacketPlace::Inside,
-        Inclusion::Outside => PacketPlace::Outside,
-        Inclusion::Fault => PacketPlace::OutOfRange, // it never is: a packet's radius always makes a circle
+        Inclusion::Inside => Ok(true),
+        Inclusion::Outside => Ok(false),
+        Inclusion::Fault => Err(PlaceFault::OutOfRange), // it never is: a packet's radius always makes a circle
     }
 }
