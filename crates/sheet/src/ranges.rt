@@ -3,7 +3,6 @@ ghost use Rattle.std.specs.Prelude.{◌≡◌, drop};
 ghost use Rattle.text.specs.Ascii.{ascii};
 ghost use Rattle.text.specs.Parts.{starts_with};
 ghost use Rattle.words.specs.Duration.{is_lasting};
-ghost use Rattle.sheet.specs.declared.Parts.TheVariants.{OnePart};
 ghost use Rattle.sheet.specs.Sheet.{cap, warn, is_name_byte, all_name_bytes, holds_cdata_end, is_name, is_lasting_time, is_parts, in_range};
 
 use crate::{CapFacts, Lasting, Part, Parts, WarnFacts};
@@ -77,13 +76,13 @@ fn is_lasting_time(lasting: Lasting) -> bool
     ensures { result ≡ is_lasting_time lasting }
 {
     match lasting {
-        Lasting::Unstated => true,
-        Lasting::Seconds(s) => is_lasting(s as u64),
+        None => true,
+        Some(s) => is_lasting(s as u64),
     }
 }
 
 fn is_part(p: Part) -> bool
-    ensures { result ≡ is_parts (OnePart p) }
+    ensures { result ≡ is_parts (Some p) }
 {
     let lasting = p.lasting;
     (1 <= p.number) & (p.number <= p.total) & (p.total <= 16) & is_lasting_time(lasting)
@@ -93,8 +92,8 @@ fn is_parts(parts: Parts) -> bool
     ensures { result ≡ is_parts parts }
 {
     match parts {
-        Parts::NoPart => true,
-        Parts::OnePart(p) => is_part(p),
+        None => true,
+        Some(p) => is_part(p),
     }
 }
 

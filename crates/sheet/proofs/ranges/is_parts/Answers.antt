@@ -2,6 +2,6 @@
 use Rattle.sheet.specs.Sheet.{is_parts}
 use Rattle.sheet.proofs.ranges.is_parts.Goals as goal
 
-pub returns-in-NoPart : goal.returns-in-NoPart
+pub returns-in-None : goal.returns-in-None
 unfolding is_parts
-returns-in-NoPart c = rw c.in-NoPart.is
+returns-in-None c = rw c.in-None.is
