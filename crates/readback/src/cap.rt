@@ -17,8 +17,8 @@ fn put_lasting(dst: &mut [u8], at: usize, lasting: Lasting) -> usize
     ensures { Put dst.old at (ascii ", lasts" ++ lasting_text plain lasting) dst.new result }
 {
     match lasting {
-        Lasting::Unstated => put(dst, at, b", lasts no stated time"),
-        Lasting::Seconds(s) => duration_field(dst, at, b", lasts", s),
+        None => put(dst, at, b", lasts no stated time"),
+        Some(s) => duration_field(dst, at, b", lasts", s),
     }
 }
 
@@ -45,8 +45,8 @@ fn put_parts(dst: &mut [u8], at: usize, parts: Parts) -> usize
     ensures { Put dst.old at (parts_text plain parts) dst.new result }
 {
     match parts {
-        Parts::NoPart => put(dst, at, b", no parts"),
-        Parts::OnePart(p) => put_part(dst, at, p),
+        None => put(dst, at, b", no parts"),
+        Some(p) => put_part(dst, at, p),
     }
 }
 

@@ -15,7 +15,7 @@ use crate::cap::put_cap;
 use crate::room::{cap_has_room, warn_has_room};
 use crate::warn::put_warn;
 use sheet::ranges::{is_cap, is_warn};
-use sheet::{CapFacts, WarnFacts, WriteSheet};
+use sheet::{CapFacts, WarnFacts, WriteError};
 
 // The length of the longest sentence (sheet/specs/Sentence.antt: `longest`).
 pub const LONGEST: usize = 651;
@@ -27,37 +27,35 @@ pub fn write_cap(
     facts: CapFacts,
     sender: &[u8],
     name: &[u8],
-) -> WriteSheet
+) -> Result<usize, WriteError>
     ensures { (write_answer result ≡ writing buffer.old start (cap facts sender.now name.now)) × (buffer.new ≡ after buffer.old start (cap facts sender.now name.now)) }
 {
     if !is_cap(facts, sender, name) {
-        return WriteSheet::OutOfRange;
+        return Err(WriteError::OutOfRange);
     }
     let n = buffer.len();
     if n < start {
-        return WriteSheet::NoRoom;
+        return Err(WriteError::NoRoom);
     }
     if !cap_has_room(n - start, facts, sender, name) {
-        return WriteSheet::NoRoom;
+        return Err(WriteError::NoRoom);
     }
-    let end = put_cap(buffer, start, facts, sender, name);
-    WriteSheet::End(end)
+    Ok(put_cap(buffer, start, facts, sender, name))
 }
 
 // Writes the sentence of a WARN sheet from start on, or refuses it likewise.
-pub fn write_warn(buffer: &mut [u8], start: usize, facts: WarnFacts) -> WriteSheet
+pub fn write_warn(buffer: &mut [u8], start: usize, facts: WarnFacts) -> Result<usize, WriteError>
     ensures { (write_answer result ≡ writing buffer.old start (warn facts)) × (buffer.new ≡ after buffer.old start (warn facts)) }
 {
     if !is_warn(facts) {
-        return WriteSheet::OutOfRange;
+        return Err(WriteError::OutOfRange);
     }
     let n = buffer.len();
     if n < start {
-        return WriteSheet::NoRoom;
+        return Err(WriteError::NoRoom);
     }
     if !warn_has_room(n - start, facts) {
-        return WriteSheet::NoRoom;
+        return Err(WriteError::NoRoom);
     }
-    let end = put_warn(buffer, start, facts);
-    WriteSheet::End(end)
+    Ok(put_warn(buffer, start, facts))
 }

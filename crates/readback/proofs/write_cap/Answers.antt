@@ -29,4 +29,4 @@ returns-then-not-cap_has_room c = let r = lacks_room _ _ _ c.if-n-start.false (s
 pub returns : goal.returns
 unfolding sentence sentence_in
 returns c = let r = has_room _ _ _ c.if-n-start.false (sym c.cap_has_room.ensures ∙ c.if-not-cap_has_room.false) in
-    answer_end _ _ (cap _ _ _) (sym c.is_cap.ensures ∙ c.if-not-is_cap.false) r c.put_cap-end.ensures
+    answer_end _ _ (cap _ _ _) (sym c.is_cap.ensures ∙ c.if-not-is_cap.false) r c.put_cap.ensures

@@ -29,4 +29,4 @@ returns-then-not-warn_has_room c = let r = lacks_room _ _ _ c.if-n-start.false (
 pub returns : goal.returns
 unfolding sentence sentence_in
 returns c = let r = has_room _ _ _ c.if-n-start.false (sym c.warn_has_room.ensures ∙ c.if-not-warn_has_room.false) in
-    answer_end _ _ (warn _) (sym c.is_warn.ensures ∙ c.if-not-is_warn.false) r c.put_warn-end.ensures
+    answer_end _ _ (warn _) (sym c.is_warn.ensures ∙ c.if-not-is_warn.false) r c.put_warn.ensures

@@ -2,10 +2,10 @@
 use Rattle.sheet.specs.Sentence.{parts_text}
 use Rattle.readback.proofs.cap.put_parts.Goals as goal
 
-pub returns-in-NoPart : goal.returns-in-NoPart
+pub returns-in-None : goal.returns-in-None
 unfolding parts_text
-returns-in-NoPart c = rw c.in-NoPart.is c.put.ensures
+returns-in-None c = rw c.in-None.is c.put.ensures
 
-pub returns-in-OnePart : goal.returns-in-OnePart
+pub returns-in-Some : goal.returns-in-Some
 unfolding parts_text
-returns-in-OnePart c = rw c.in-OnePart.is c.put_part.ensures
+returns-in-Some c = rw c.in-Some.is c.put_part.ensures
