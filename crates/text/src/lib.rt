@@ -2,7 +2,7 @@
 
 #![tactic(auto)]
 
-ghost use Rattle.std.specs.Prelude.{◌≡◌, ◌+◌, ◌-◌, take, drop};
+ghost use Rattle.std.specs.Prelude.{◌≡◌, [], ◌+◌, ◌-◌, map, take, drop, get_or};
 ghost use Rattle.text.specs.Bytes.{is_space, spaces, is_digit};
 ghost use Rattle.text.specs.Logic.{eql};
 ghost use Rattle.text.specs.Parts.{part, starts_with};
@@ -79,6 +79,13 @@ pub fn part(t: &[u8], from: usize, until: usize) -> &[u8]
         return &t[..0];
     }
     first(skip(t, from), until - from)
+}
+
+// The text at an index of a table; the empty text past its end.
+pub fn entry<'a>(table: &[&'a [u8]], index: usize) -> &'a [u8]
+    ensures { result.now ≡ get_or (map (λ t. t.now) table.now) index [] }
+{
+    table.get(index).copied().unwrap_or(b"")
 }
 
 // Whether a text starts with p.
