@@ -5,8 +5,11 @@
 pub mod list; // list.rt: the numbers of the lists
 pub mod texts; // texts.rt: codes by their texts
 pub mod values; // values.rt: values by their numbers
+mod code; // code.rt: what the values of all lists share
 
-#[derive(Clone, Copy)]
+pub use code::Code;
+
+#[derive(Clone, Copy, Debug, PartialEq, Eq)]
 pub enum MessageType {
     Alert,
     Update,
@@ -15,7 +18,7 @@ pub enum MessageType {
     Error,
 }
 
-#[derive(Clone, Copy)]
+#[derive(Clone, Copy, Debug, PartialEq, Eq)]
 pub enum Status {
     Actual,
     Exercise,
@@ -24,14 +27,14 @@ pub enum Status {
     Draft,
 }
 
-#[derive(Clone, Copy)]
+#[derive(Clone, Copy, Debug, PartialEq, Eq)]
 pub enum Scope {
     Public,
     Restricted,
     Private,
 }
 
-#[derive(Clone, Copy)]
+#[derive(Clone, Copy, Debug, PartialEq, Eq)]
 pub enum Urgency {
     Immediate,
     Expected,
@@ -40,7 +43,7 @@ pub enum Urgency {
     Unknown,
 }
 
-#[derive(Clone, Copy)]
+#[derive(Clone, Copy, Debug, PartialEq, Eq)]
 pub enum Severity {
     Extreme,
     Severe,
@@ -49,7 +52,7 @@ pub enum Severity {
     Unknown,
 }
 
-#[derive(Clone, Copy)]
+#[derive(Clone, Copy, Debug, PartialEq, Eq)]
 pub enum Certainty {
     Observed,
     Likely,
