@@ -24,14 +24,14 @@ const OF: usize = 3; // " of"
 const LASTS: usize = 7; // ", lasts"
 
 // How long a part lasts, from after "lasts" on.
+#[tactic(auto, unfolding(sheet::specs::Reading::lasting_of))]
 fn lasting_of(t: &[u8]) -> Lasting
     ensures { result ≡ lasting_of t.now }
 {
     if text::starts_with(t, b" no ") {
-        return Lasting::Unstated;
+        return None;
     }
-    let duration = read_duration(t, 0);
-    Lasting::Seconds(duration.value)
+    Some(read_duration(t, 0).value)
 }
 
 // A part, from ", part" on.
@@ -56,13 +56,14 @@ fn part_of(t: &[u8]) -> Part
 }
 
 // The part that a sentence tells of, from after the name on.
+#[tactic(auto, unfolding(sheet::specs::Reading::parts_of))]
 fn parts_of(t: &[u8]) -> Parts
     ensures { result ≡ parts_of t.now }
 {
     if text::starts_with(t, b", part") {
-        return Parts::OnePart(part_of(t));
+        return Some(part_of(t));
     }
-    Parts::NoPart
+    None
 }
 
 // The leading word of the rest of a text, which stands at an offset.
