@@ -3,7 +3,7 @@ ghost use Rattle.std.specs.Prelude.{◌≡◌, ◌-ℤ◌, ◌*ℤ◌};
 ghost use Rattle.std.specs.Int.Signed.{lt_z};
 ghost use Rattle.integers.specs.Magnitude.{less_by};
 ghost use Rattle.polygon.specs.Polygon.{between, east_of, north_of};
-ghost use Rattle.polygon.specs.Edges.{value_of, in_box, crossed_by, edge_of, plus_of, tallied};
+ghost use Rattle.polygon.specs.Edges.{value_of, in_box, crossed_by, edge_of, plus_of};
 ghost use Rattle.polygon.specs.Skips.{on_one_side};
 
 use coordinates::Place;
@@ -115,14 +115,11 @@ fn on_one_side(a: i32, b: i32, z: i32) -> bool
     ((z < a) & (z < b)) | ((a < z) & (b < z))
 }
 
-// The sum of what edges say of the place p, with the edge from a to b; the same sum where no edge is counted. An edge with both ends on one side of
-// the place's latitude adds nothing, so that it is skipped before any product is formed.
-pub fn add_edge(counted: bool, sum: Tally, a: Place, b: Place, p: Place) -> Tally
-    ensures { result ≡ tallied counted p sum a b }
+// The sum of what edges say of the place p, with the edge from a to b. An edge with both ends on one side of the place's latitude adds nothing, so that it
+// is skipped before any product is formed.
+pub fn add_edge(sum: Tally, a: Place, b: Place, p: Place) -> Tally
+    ensures { result ≡ plus_of sum (edge_of a b p) }
 {
-    if !counted {
-        return sum;
-    }
     if on_one_side(a.lat, b.lat, p.lat) {
         return sum;
     }
