@@ -54,7 +54,7 @@ pub fn difference(a: i32, b: i32) -> i64
 pub fn distance(a: i32, b: i32) -> u64
     ensures { result ≡ nat_abs (a -ℤ b) }
 {
-    u64::from(a.abs_diff(b))
+    difference(a, b).unsigned_abs()
 }
 
 // The latitude that a text writes.
