@@ -3,7 +3,7 @@
 
 #![tactic(auto)]
 
-use sheet::{ReadBack, ReadError};
+use sheet::ReadError;
 use std::io;
 
 // How long a text may be.
@@ -18,11 +18,9 @@ fn print_refusal(rt: &impl Print, error: ReadError) -> io::Result<()> {
 
 // Writes the read-back of a line, from its sheet.
 fn print_line(rt: &impl Print, line: &[u8]) -> io::Result<()> {
-    match reader::read_back(line, 1) {
-        Ok(ReadBack { sheet: Some(found), .. }) => {
-            output::write_sentence(&mut io::writer(rt), line, found)
-        }
-        Ok(_) => Ok(()),
+    match reader::read_back(line, 1).map(|read| read.sheet) {
+        Ok(Some(found)) => output::write_sentence(&mut io::writer(rt), line, found),
+        Ok(None) => Ok(()),
         Err(error) => print_refusal(rt, error),
     }
 }

@@ -4,7 +4,7 @@
 #![tactic(auto)]
 
 use codes::{Certainty, MessageType, Scope, Severity, Status, Urgency};
-use sheet::{CapFacts, Lasting, Part, Parts, ReadBack, ReadError, WarnFacts, WriteError};
+use sheet::{CapFacts, Lasting, Part, Parts, ReadError, WarnFacts, WriteError};
 use std::io;
 
 // The buffer's length: of the last three sheets only the second fits, and just so.
@@ -144,11 +144,13 @@ fn write_list(rt: &impl Print, text: &mut Text) -> io::Result<()> {
 
 fn print_read(rt: &impl Print, text: &[u8], k: usize) -> io::Result<()> {
     match reader::read_back(text, k) {
-        Ok(ReadBack { count, sheet: None }) => println!(rt; "{count} sentences"),
-        Ok(ReadBack { count, sheet: Some(found) }) => {
-            print!(rt; "{count}: ")?;
-            output::write_sentence(&mut io::writer(rt), text, found)
-        }
+        Ok(read) => match read.sheet {
+            Some(found) => {
+                print!(rt; "{}: ", read.count)?;
+                output::write_sentence(&mut io::writer(rt), text, found)
+            }
+            None => println!(rt; "{} sentences", read.count),
+        },
         Err(ReadError::NotReadBack(offset)) => println!(rt; "refused 23 at {offset}"),
         Err(ReadError::NotThere) => println!(rt; "refused 21 at 0"),
     }

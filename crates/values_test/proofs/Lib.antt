@@ -1,1 +1,1 @@
-mod Instants
+mod Words
