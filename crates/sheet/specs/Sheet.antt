@@ -1,5 +1,6 @@
 -- Fact sheets and their ranges (document 01, "The sentence").
 use Rattle.std.specs.Prelude.{Option, Some, None, Bool, true, false, not, ◌&&◌, ◌||◌, List, [], ◌∷◌, ℕ, eqb, leb, ltb, length}
+use Rattle.std.specs.List.{list_all}
 use Prim.Native.Char.{code}
 use Rattle.text.specs.Ascii.{ascii}
 use Rattle.text.specs.Parts.{starts_with}
@@ -19,8 +20,7 @@ abbrev pub is_name_byte : ℕ → Bool
 is_name_byte b = ltb 0x20 b && not (eqb b (code ",")) && not (eqb b (code "<")) && not (eqb b (code "&"))
 
 unfoldable pub all_name_bytes : List ℕ → Bool
-all_name_bytes [] = true
-all_name_bytes (b ∷ l) = is_name_byte b && all_name_bytes l
+all_name_bytes l = list_all is_name_byte l
 
 unfoldable pub holds_cdata_end : List ℕ → Bool
 holds_cdata_end [] = false
