@@ -2,10 +2,10 @@
 
 #![tactic(auto)]
 
-ghost use Rattle.std.specs.Prelude.{◌≡◌, true, ◌-◌, length};
+ghost use Rattle.std.specs.Prelude.{◌≡◌, true, ◌*◌, ◌≤◌};
 ghost use Rattle.words.specs.Duration.{is_lasting};
 ghost use Rattle.packet.specs.declared.PlaceFault.TheVariants.{Packet};
-ghost use Rattle.packet.specs.Packet.{tlv_of, signature_of, tlv_span, signature_span, signed_span, lasting_of, packet_of, fault_number, packet_answer, sheet_of_fields, packet_sheet, sheet_answer, packet_place, place_answer};
+ghost use Rattle.packet.specs.Packet.{epicentre, tlv_of, signature_of, tlv_span, signature_span, signed_span, lasting_of, packet_of, fault_number, packet_answer, sheet_of_fields, packet_sheet, sheet_answer, packet_place, place_answer};
 
 use coordinates::Place;
 use sheet::{Span, WarnFacts, span_in};
@@ -13,7 +13,6 @@ use sheet::{Span, WarnFacts, span_in};
 mod bytes;
 mod checks;
 mod layout;
-mod shape;
 
 // The fields of an ALERT packet. The TLV block and the signature are parts of the packet (`tlv_block`, `signature`).
 #[derive(Clone, Copy)]
@@ -39,6 +38,31 @@ pub struct Fields {
     pub lon: i32,
     pub radius: u16,
     pub key: u32,
+}
+
+impl Fields {
+    fn epicentre(&self) -> Place
+        ensures { result ≡ epicentre self.now }
+    {
+        Place {
+            lat: self.lat,
+            lon: self.lon,
+        }
+    }
+
+    // How long the packet lasts, in seconds; 0 where it expires before its timestamp.
+    fn lasting(&self) -> u64
+        ensures { result ≡ lasting_of self.now }
+    {
+        self.expiry.saturating_sub(self.timestamp)
+    }
+
+    // Its radius, of units of 10 m, in metres: its width keeps it below 20,000 km.
+    fn metres(&self) -> u32
+        ensures { (result ≡ 10 * self.now.radius) × (result ≤ 20_000_000) }
+    {
+        10 * u32::from(self.radius)
+    }
 }
 
 // Why a packet is refused.
@@ -85,23 +109,13 @@ impl From<Fault> for PlaceFault {
     }
 }
 
-// How many bytes stand before the last n of a packet; 0 where it has fewer than n.
-fn before_last(p: &[u8], n: usize) -> usize
-    ensures { result ≡ length p.now - n }
-{
-    if p.len() < n {
-        return 0;
-    }
-    p.len() - n
-}
-
 // Where the TLV block stands: between the fields and the last 68 bytes. It is empty where the packet is shorter than an ALERT.
 pub fn tlv_span(p: &[u8]) -> Span
     ensures { result ≡ tlv_span p.now }
 {
     Span {
         start: 0x40,
-        len: before_last(p, 132),
+        len: p.len().saturating_sub(132),
     }
 }
 
@@ -110,7 +124,7 @@ pub fn signature_span(p: &[u8]) -> Span
     ensures { result ≡ signature_span p.now }
 {
     Span {
-        start: before_last(p, 64),
+        start: p.len().saturating_sub(64),
         len: 64,
     }
 }
@@ -121,11 +135,12 @@ pub fn signed_span(p: &[u8]) -> Span
 {
     Span {
         start: 0,
-        len: before_last(p, 64),
+        len: p.len().saturating_sub(64),
     }
 }
 
 // The TLV block of a packet; none where the packet is shorter than an ALERT.
+#[tactic(auto, using(crate::proofs::Parts::tlv_bytes))]
 pub fn tlv_block(p: &[u8]) -> &[u8]
     ensures { result.now ≡ tlv_of p.now }
 {
@@ -133,10 +148,11 @@ pub fn tlv_block(p: &[u8]) -> &[u8]
 }
 
 // The signature of a packet: its last 64 bytes, all of it where it is shorter.
+#[tactic(auto, unfolding(crate::specs::Packet::signature_of))]
 pub fn signature(p: &[u8]) -> &[u8]
     ensures { result.now ≡ signature_of p.now }
 {
-    span_in(p, signature_span(p))
+    &p[p.len().saturating_sub(64)..]
 }
 
 // The fields of an ALERT packet, or why it is refused.
@@ -150,7 +166,7 @@ pub fn read_packet(p: &[u8]) -> Result<Fields, Fault>
     if !checks::is_warn(p) {
         return Err(Fault::NotWarn);
     }
-    if bytes::u8_at(p, 0x04) != 1 {
+    if layout::major_version(p) != 1 {
         return Err(Fault::Version);
     }
     if !layout::flag(p, 0) {
@@ -160,6 +176,7 @@ pub fn read_packet(p: &[u8]) -> Result<Fields, Fault>
 }
 
 // The sheet of an ALERT's fields.
+#[tactic(auto, unfolding(crate::specs::Packet::sheet_of_fields))]
 fn sheet_of(f: Fields) -> WarnFacts
     requires { is_lasting (lasting_of f) ≡ true }
     ensures { result ≡ sheet_of_fields f }
@@ -172,7 +189,7 @@ fn sheet_of(f: Fields) -> WarnFacts
         event: f.event,
         number: f.sequence,
         origin: f.key,
-        lasting: checks::lasting(f.expiry, f.timestamp) as u32,
+        lasting: f.lasting() as u32,
         hazard: f.hazard_major,
         kind: f.hazard_minor,
         urgency: f.urgency,
@@ -192,10 +209,14 @@ pub fn packet_sheet(p: &[u8]) -> Result<WarnFacts, Fault>
 }
 
 // Whether a packet's circle holds a place; or why the packet, and then the place, is refused.
-#[tactic(auto, unfolding(crate::specs::Packet::packet_place))]
+#[tactic(auto, using(crate::proofs::Sides::always_a_side), unfolding(crate::specs::Packet::packet_place))]
 pub fn packet_place(p: &[u8], place: Place) -> Result<bool, PlaceFault>
     ensures { place_answer result ≡ packet_place p.now place }
 {
     let fields = read_packet(p)?;
-    shape::place_in(fields, place)
+    if !coordinates::in_range(place) {
+        return Err(PlaceFault::OutOfRange);
+    }
+    // a packet's radius always makes a circle
+    Ok(circle::around_holds(fields.epicentre(), fields.metres(), place).unwrap())
 }
