@@ -1,7 +1,7 @@
 pub mod Numbers
 pub mod Events
 pub mod Runs
-pub mod Steps
+pub mod EndTags
 pub mod Tested
 pub mod Loops
 pub mod Accepted
