@@ -12,14 +12,14 @@ ghost use Rattle.text.specs.Tokens.{token_length};
 pub fn is_space(b: u8) -> bool
     ensures { result ≡ is_space b }
 {
-    (b == b'\t') | (b == b'\n') | (b == b'\r') | (b == b' ')
+    matches!(b, b'\t' | b'\n' | b'\r' | b' ')
 }
 
 // Whether a byte is a decimal digit.
 pub fn is_digit(b: u8) -> bool
     ensures { result ≡ is_digit b }
 {
-    (b'0' <= b) & (b <= b'9')
+    matches!(b, b'0'..=b'9')
 }
 
 // The first offset from `at` on that holds no white space; `at` itself where it lies past the end.
