@@ -5,16 +5,13 @@
 mod fields; // fields.rt: the fields of a sentence
 pub mod cap; // cap.rt: the sentence of a CAP sheet
 pub mod warn; // warn.rt: the sentence of a WARN sheet
-mod room; // room.rt: whether a sentence has room
+mod sheets; // sheets.rt: the sentence of a sheet of either kind, where it has room
 
 ghost use Rattle.std.specs.Prelude.{◌≡◌};
 ghost use Rattle.sheet.specs.Sheet.{cap, warn};
 ghost use Rattle.sheet.specs.Answers.{writing, write_answer, after};
 
-use crate::cap::put_cap;
-use crate::room::{cap_has_room, warn_has_room};
-use crate::warn::put_warn;
-use sheet::ranges::{is_cap, is_warn};
+use crate::sheets::{Cap, write};
 use sheet::{CapFacts, WarnFacts, WriteError};
 
 // The length of the longest sentence (sheet/specs/Sentence.antt: `longest`).
@@ -30,32 +27,17 @@ pub fn write_cap(
 ) -> Result<usize, WriteError>
     ensures { (write_answer result ≡ writing buffer.old start (cap facts sender.now name.now)) × (buffer.new ≡ after buffer.old start (cap facts sender.now name.now)) }
 {
-    if !is_cap(facts, sender, name) {
-        return Err(WriteError::OutOfRange);
-    }
-    let n = buffer.len();
-    if n < start {
-        return Err(WriteError::NoRoom);
-    }
-    if !cap_has_room(n - start, facts, sender, name) {
-        return Err(WriteError::NoRoom);
-    }
-    Ok(put_cap(buffer, start, facts, sender, name))
+    let sheet = Cap {
+        facts,
+        sender,
+        name,
+    };
+    write(buffer, start, sheet)
 }
 
 // Writes the sentence of a WARN sheet from start on, or refuses it likewise.
 pub fn write_warn(buffer: &mut [u8], start: usize, facts: WarnFacts) -> Result<usize, WriteError>
     ensures { (write_answer result ≡ writing buffer.old start (warn facts)) × (buffer.new ≡ after buffer.old start (warn facts)) }
 {
-    if !is_warn(facts) {
-        return Err(WriteError::OutOfRange);
-    }
-    let n = buffer.len();
-    if n < start {
-        return Err(WriteError::NoRoom);
-    }
-    if !warn_has_room(n - start, facts) {
-        return Err(WriteError::NoRoom);
-    }
-    Ok(put_warn(buffer, start, facts))
+    write(buffer, start, facts)
 }

@@ -9,4 +9,4 @@ returns-in-None c = rw c.in-None.is c.put.ensures
 
 pub returns-in-Some : goal.returns-in-Some
 unfolding lasting_text
-returns-in-Some c = rw c.in-Some.is (both c.duration_field.ensures)
+returns-in-Some c = rw c.in-Some.is (both c.put_field.ensures)

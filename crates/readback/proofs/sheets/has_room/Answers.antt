@@ -5,10 +5,10 @@ use native.Mathlib.Nat.{le_trans}
 use lib.Dec.{leb}
 use borrow.Author.Tests.{le-leb}
 use Rattle.buffer.proofs.Room.{put_length}
-use Rattle.readback.proofs.room.warn_has_room.Goals as goal
+use Rattle.readback.proofs.sheets.has_room.Goals as goal
 
 pub returns-then-room-ge-LONGEST : goal.returns-then-room-ge-LONGEST
-returns-then-room-ge-LONGEST c = sym (le-leb _ _ (le_trans c.requires c.if-room-ge-LONGEST.true))
+returns-then-room-ge-LONGEST g c = sym (le-leb _ _ (le_trans c.requires c.if-room-ge-LONGEST.true))
 
 pub returns : goal.returns
-returns c = ap (λ (n : ℕ). leb n c.args.room) (put_length c.put_warn.ensures c.requires)
+returns g c = ap (λ (n : ℕ). leb n c.args.room) (put_length c.put.ensures c.requires)
