@@ -62,11 +62,12 @@ impl Mode {
         }
     }
 
-    // The element whose end tag is due, 0 for none.
+    // The class of the element whose end tag is due, 0 for the document itself.
     pub fn open_class(self) -> usize
         ensures { result ≡ open_class self }
     {
-        self.leaf.unwrap_or(schema::order::container_of(self.state))
+        self.leaf
+            .unwrap_or_else(|| schema::order::container_of(self.state))
     }
 
     // A refusal at the mode's offset.

@@ -13,6 +13,9 @@ use rules::Fault;
 use schema::class;
 use xml_tags::{Binding, NameSpaceError, Tail};
 
+// kept: text, mode, name and its end are four parameters. In a struct of them each clause names them through `entry`, as in
+// `other_step tag.entry.s.now tag.entry.m tag.entry.name.now (tail tag.entry.s.now tag.entry.n)`.
+
 // ---- start tags
 
 // A start tag other than the alert's, whose name ends at n.
