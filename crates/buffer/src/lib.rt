@@ -14,28 +14,19 @@ pub struct NoRoom;
 pub fn put(dst: &mut [u8], at: usize, src: &[u8]) -> usize
     ensures { Put dst.old at src.now dst.new result }
 {
-    let mut i = 0;
-    let mut k = at;
-    while i < src.len() {
-        if dst.len() <= k {
-            return k;
-        }
-        dst[k] = src[i];
-        i += 1;
-        k += 1;
+    if dst.len() <= at {
+        return at;
     }
-    k
+    let n = src.len().min(dst.len() - at);
+    dst[at..at + n].copy_from_slice(&src[..n]);
+    at + n
 }
 
 // Writes a text into the buffer from start on and gives where it ends; changes nothing where it has no room there.
 pub fn write_text(buffer: &mut [u8], start: usize, text: &[u8]) -> Result<usize, NoRoom>
     ensures { (text_answer result ≡ write_text buffer.old start text.now) × (buffer.new ≡ after_text buffer.old start text.now) }
 {
-    let n = buffer.len();
-    if n < start {
-        return Err(NoRoom);
-    }
-    if n - start < text.len() {
+    if buffer.len() < start || buffer.len() - start < text.len() {
         return Err(NoRoom);
     }
     Ok(put(buffer, start, text))
