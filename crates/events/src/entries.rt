@@ -15,10 +15,10 @@ pub fn is_set(byte: u8) -> bool
 
 impl Entry {
     // Whether it is a used one of an event.
-    pub fn is_of(&self, key: u32, event: u32) -> bool
-        ensures { result ≡ is_of key event self.now }
+    pub fn is_of(&self, id: EventId) -> bool
+        ensures { result ≡ is_of id.key id.event self.now }
     {
-        is_set(self.used) && self.key == key && self.event == event
+        is_set(self.used) && self.event_id() == id
     }
 
     pub fn is_free(&self) -> bool
@@ -73,6 +73,17 @@ impl Entry {
 
     pub fn event_id(&self) -> EventId
         ensures { result ≡ event_of self.now }
+    {
+        EventId {
+            key: self.key,
+            event: self.event,
+        }
+    }
+}
+
+impl New {
+    pub fn event_id(&self) -> EventId
+        ensures { result ≡ record { key = self.now.key; event = self.now.event } }
     {
         EventId {
             key: self.key,

@@ -52,7 +52,7 @@ pub struct New {
 
 // What an event is known by: the key id and the event number. A caller in C lends room for such.
 #[repr(C)]
-#[derive(Clone, Copy)]
+#[derive(Clone, Copy, Debug, PartialEq, Eq)]
 pub struct EventId {
     pub key: u32,
     pub event: u32,
@@ -77,6 +77,7 @@ pub struct Received {
 }
 
 // The running events of a table by value: how many they are, and room for 64, of which they take the first places.
+// kept: a length beside its places, since libraries have no heap
 #[derive(Clone, Copy)]
 pub struct Running {
     pub count: usize,
@@ -91,7 +92,7 @@ pub struct NoRoom;
 pub fn find(table: Table, key: u32, event: u32) -> Option<usize>
     ensures { result ≡ position_of key event table.entries }
 {
-    tables::find(&table.entries, key, event)
+    tables::find(&table.entries, EventId { key, event })
 }
 
 // A packet is received. `verdict` is the signature chip's, `keys` are the key ids that are listened to.

@@ -12,7 +12,7 @@ fn runs_at(entries: &[Entry], time: u64, i: usize) -> bool
     ensures { result ≡ runs_at time entries.now i }
 {
     let entry = entries[i];
-    entry.is_active(time) && tables::find(entries, entry.key, entry.event) == Some(i)
+    entry.is_active(time) && tables::find(entries, entry.event_id()) == Some(i)
 }
 
 // How many events run.

@@ -9,7 +9,7 @@ use crate::{Entry, New, Refusal, tables};
 pub fn decide(entries: &[Entry], new: New) -> Result<(usize, Entry), Refusal>
     ensures { result ≡ decided new entries.now }
 {
-    if let Some(at) = tables::find(entries, new.key, new.event) {
+    if let Some(at) = tables::find(entries, new.event_id()) {
         let entry = entries[at];
         if entry.sequence < new.sequence {
             return Ok((at, entry.renewed(new)));

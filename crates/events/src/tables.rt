@@ -3,13 +3,13 @@ ghost use Rattle.std.specs.Prelude.{◌≡◌};
 ghost use Rattle.std.specs.List.{position};
 ghost use Rattle.events.specs.Table.{is_free, position_of, table_outcome, received, receipt_answer, swept_all};
 
-use crate::{Entry, New, Refusal, checks, plans};
+use crate::{Entry, EventId, New, Refusal, checks, plans};
 
 // Where an event's first used entry stands.
-pub fn find(entries: &[Entry], key: u32, event: u32) -> Option<usize>
-    ensures { result ≡ position_of key event entries.now }
+pub fn find(entries: &[Entry], id: EventId) -> Option<usize>
+    ensures { result ≡ position_of id.key id.event entries.now }
 {
-    entries.iter().position(|entry| entry.is_of(key, event))
+    entries.iter().position(|entry| entry.is_of(id))
 }
 
 // Where the lowest free entry stands.

@@ -3,8 +3,8 @@ ghost use Rattle.std.specs.Prelude.{◌≡◌};
 ghost use Rattle.text.specs.Answers.{answer_number};
 ghost use Rattle.events.specs.Table.{is_set, index_of, received, swept_all};
 
-use events::Entry;
 use events::entries::is_set;
+use events::{Entry, EventId};
 
 // Frees the used entries whose keep-until is below a time.
 pub fn warnbox_sweep(entries: &mut [Entry], time: u64)
@@ -18,7 +18,7 @@ pub fn warnbox_sweep(entries: &mut [Entry], time: u64)
 pub fn warnbox_find_event(entries: &[Entry], key: u32, event: u32) -> usize
     ensures { result ≡ index_of key event entries.now }
 {
-    events::tables::find(entries, key, event).unwrap_or(entries.len())
+    events::tables::find(entries, EventId { key, event }).unwrap_or(entries.len())
 }
 
 // A packet is received. `verified` is the signature chip's verdict, any byte but 0 being yes; `keys` are the key ids that are listened to. Every

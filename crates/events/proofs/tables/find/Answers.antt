@@ -8,6 +8,6 @@ use Rattle.events.proofs.tables.find.Goals as goal
 
 pub returns : goal.returns
 unfolding position_of
-returns c = let test = is_of c.args.key c.args.event in
+returns c = let test = is_of c.args.id.key c.args.id.event in
     position_from_yields_List test _ _ _ c.position.ensures.ran (YieldsList-from_slice c.args.entries.now cc) (λ x b q k. search rules)
     ∙ first_position test c.args.entries.now
