@@ -186,7 +186,9 @@ pub fn why_in_part(
 ) -> Result<Why, PlaceError>
     ensures { why_answer result ≡ asked_about place part total (reason_of shapes.now.first shapes.now.count) }
 {
-    look_up(part, total).ok_or(PlaceError::NotThere)?;
+    let Some(_) = look_up(part, total) else {
+        return Err(PlaceError::NotThere);
+    };
     if !coordinates::in_range(place) {
         return Err(PlaceError::OutOfRange);
     }

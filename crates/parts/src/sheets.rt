@@ -80,7 +80,9 @@ pub fn sheet_of_part(
     requires { total ≤ 255 }
     ensures { sheet_answer result ≡ sheet_of_part s.now part total (alert_span facts.now) (part_span facts.now) }
 {
-    let part = look_up(part, total).ok_or(SheetError::NotThere)?;
+    let Some(part) = look_up(part, total) else {
+        return Err(SheetError::NotThere);
+    };
     if part == 0 {
         return Ok(sheet_with(s, facts, None));
     }
