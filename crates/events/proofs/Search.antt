@@ -10,10 +10,11 @@ use borrow.Author.Tests.{ltb-true, ltb-false}
 use lib.Dec.{ltb, eqb}
 use lib.ListN.{length, get_or, set}
 use Rattle.std.specs.Prelude.{Some, None}
+use Rattle.std.specs.Option.{unwrap_or}
 use Rattle.std.specs.List.{position, position_or_len, list_any}
 use Rattle.text.specs.Logic.{by_test}
 use Rattle.events.specs.declared.Entry.{Entry}
-use Rattle.events.specs.Table.{blank, is_free, first_index, index_of, free_index, position_of, is_listed}
+use Rattle.events.specs.Table.{blank, is_of, is_free, first_index, index_of, free_index, position_of, is_listed}
 use Rattle.events.specs.Demand2.{FirstAt, NoneOf}
 
 -- ---- the first index
@@ -109,6 +110,14 @@ unfolding position_of
 found key event es =
     let k = index_of key event es in
     by_test (ltb k (length es)) (λ t. (refl, inl (ltb-true k (length es) t, rw t))) (λ t. (refl, inr (ltb-false k (length es) t, rw t)))
+
+-- or else the number of entries
+pub found_or_all : (key event : ℕ) (es : List Entry) → unwrap_or (position_of key event es) (length es) ≡ index_of key event es
+unfolding position_of
+found_or_all key event es =
+    let f = is_of key event in
+    let k = first_index f es in
+    by_test (ltb k (length es)) (λ t. rw t) (λ t. rw t (omega (arith, index_le f es, ltb-false k (length es) t)))
 
 pub found_free : (es : List Entry)
     → (position is_free es ≡ position is_free es)

@@ -14,7 +14,7 @@ pub fn warnbox_sweep(entries: &mut [Entry], time: u64)
 }
 
 // The index of an event's first used entry, the number of entries where it has none.
-#[tactic(auto, using(events::proofs::Search::found))]
+#[tactic(auto, using(events::proofs::Search::found_or_all))]
 pub fn warnbox_find_event(entries: &[Entry], key: u32, event: u32) -> usize
     ensures { result ≡ index_of key event entries.now }
 {
