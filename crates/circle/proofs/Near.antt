@@ -6,7 +6,7 @@ use native.Mathlib.Nat.{mul-le-mul, mul-lt-mul_of_pos_right, le_of_lt, le_refl, 
 use native.Mathlib.Omega.{arith}
 use borrow.Author.Tests.{le-leb, lt-leb}
 use lib.IntN.{ℤ, pos, nat_abs, ◌-ℤ◌}
-use lib.ListN.{get_or, get_or-eq_default}
+use lib.ListN.{get_or}
 use mir.Syntax.{w32, w64}
 use mir.Val.{Fits, SFits}
 use mir.Facts.{to_z-of_z}
@@ -16,12 +16,9 @@ use Rattle.integers.specs.Bits.{read}
 use Rattle.integers.specs.Magnitude.{abs_sub_zero}
 use Rattle.circle.specs.Cosine.{cosines}
 use Rattle.circle.specs.Circle.{cosine_at, units_of, latitude_apart, longitude_scaled, within_squares, in_circle, around_holds}
-use Rattle.circle.proofs.Rules.{entries, entry_le}
+use Rattle.circle.proofs.Rules.{entry_le}
 
 -- ---- cosines
-
-pub cosine_none : (i : ℕ) → 900 < i → 0 ≡ get_or cosines i 0
-cosine_none i h = let g : 901 ≤ i = omega arith in sym (get_or-eq_default cosines 0 {n = i} (rw entries g))
 
 -- r is the cosine by the tenths d of a latitude
 pub cosine_is :

@@ -15,25 +15,17 @@ use mir.Val.{SFits, to_z, of_z}
 use mir.Facts.{to_z_pos, to_z-of_z}
 use Rattle.std.specs.Prelude.{Some, None}
 use Rattle.text.specs.Answers.{gives, refuses}
-use Rattle.text.specs.Logic.{by_test}
 use Rattle.coordinates.proofs.Arms.{some_arm, none_arm}
 use Rattle.integers.specs.Magnitude.{abs_neg, signed}
 use Rattle.integers.specs.Bits.{read, read_given, fits_abs}
 use Rattle.coordinates.specs.Decimal.{leads, scaled, decimal_length, decimal_at}
 use Rattle.coordinates.specs.Place.{sign_length, unsigned, is_coordinate, coordinate_value, coordinate_length, coordinate_at, degrees_of}
-use Rattle.coordinates.proofs.Leading.{leads_in}
 use Rattle.coordinates.proofs.Decimals.{DecimalRead, decimal_read, no_decimal_read}
 
 -- ---- the sign
 
 -- plus and minus as the bytes at i were tested
 module _ (s : List ℕ) (i : ℕ) (plus minus : Bool) (p : plus ≡ leads (code "+") (drop i s)) (m : minus ≡ leads (code "-") (drop i s)) where
-  pub sign_in : plus || minus ≡ true → i < length s
-  sign_in e =
-      by_test (leads (code "+") (drop i s))
-      (λ t. leads_in s i (code "+") t)
-      (λ t. leads_in s i (code "-") (rw (p, m, t) at e))
-
   pub sign_some : plus || minus ≡ true → i + 1 ≡ i + sign_length (drop i s)
   sign_some e = rw (rw (p, m) at e)
 

@@ -4,12 +4,12 @@ use mathlib.Core.Bool.{true}
 use mathlib.Core.List.{List, [], ◌∷◌}
 use Prim.Native.Char.{code}
 use Prim.Native.Nat.{ℕ, zero, suc, ◌+◌, ◌-◌, ◌*◌, ◌^◌, ◌≤◌, ◌<◌}
-use native.Mathlib.Nat.{add-sub_cancel_left, pow-suc, mul-le-mul_right, mul_comm, mul_assoc, lt_of_lt_of_le}
+use native.Mathlib.Nat.{add-zero, add-sub_cancel_left, pow-suc, mul-le-mul_right, mul_comm, mul_assoc, lt_of_lt_of_le}
 use native.Mathlib.Numerals.{add-one}
 use native.Mathlib.Omega.{arith}
 use borrow.Author.Tests.{leb-true, leb-false, le-leb, lt-leb}
-use lib.Dec.{leb}
-use lib.ListN.{length, get_or, take, drop}
+use lib.Dec.{leb-zero, leb}
+use lib.ListN.{length, get_or, take, drop, drop_of_length-le}
 use lib.Seq.{drop-cons}
 use Rattle.std.specs.Prelude.{Some, None}
 use Rattle.text.specs.Bytes.{is_digit, digits, number_from, number}
@@ -40,6 +40,11 @@ module _ (l : List ℕ) (i v : ℕ) (g : v ≡ number (take i l)) where
     pub run_long : i < length l → i ≡ most → is_digit (get_or l i 0) ≡ true → None ≡ run_of most at l
     unfolding run_of
     run_long h e d = let n : most < digits l = omega (arith, rw (drop-cons l i 0 h, d) at r) in rw (lt-leb (digits l) most n)
+
+-- no digit stands past the end
+pub run_past : (most at : ℕ) (s : List ℕ) → length s ≤ at → Some (0, at) ≡ run_of most at (drop at s)
+unfolding run_of number_from
+run_past most at s h = rw (drop_of_length-le s h, leb-zero most, add-zero at)
 
 -- ---- how large a run's number is
 

@@ -18,7 +18,9 @@ fn digits_at(s: &[u8], at: usize, most: usize) -> Option<(u64, usize)>
     requires { most ≤ 7 }
     ensures { result ≡ run_of most at (drop at s.now) }
 {
-    let rest = text::skip(s, at);
+    let Some(rest) = s.get(at..) else {
+        return Some((0, at));
+    };
     let mut value: u64 = 0;
     for (i, b) in rest.iter().enumerate() {
         if !text::is_digit(*b) {
@@ -33,6 +35,7 @@ fn digits_at(s: &[u8], at: usize, most: usize) -> Option<(u64, usize)>
 }
 
 // A power of ten. By cases and not from a table, which the compiler would build on the stack at each use.
+// Kept: with `10u64.pow(..)` reading a polygon's text takes a sixth more instructions.
 fn power_of_ten(power: usize) -> u64
     requires { power ≤ 7 }
     ensures { result ≡ 10 ^ power }
@@ -58,7 +61,8 @@ fn scale(value: u64, power: usize) -> u64
 }
 
 // The decimal at `at` and the offset after it: 1 to `whole` digits, optionally a point and 1 to `places` digits, in units of the last of these decimal
-// places.
+// places. Inlined, as it is called for each coordinate of a polygon, with numbers of digits that are known there.
+#[inline]
 pub fn decimal_at(s: &[u8], at: usize, whole: usize, places: usize) -> Option<(u64, usize)>
     requires { (whole ≤ 7) × (places ≤ 7) }
     ensures { result ≡ decimal_at whole places at (drop at s.now) }

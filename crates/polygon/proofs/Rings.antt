@@ -140,18 +140,18 @@ module _ {T : Type 0} (h : T → Place → Place → T) where
 
 -- ---- whether there is a polygon
 
--- a walk answers where there is one
-pub walk_given :
-    {T : Type 0} (l : List ℕ) (f : List Place → T) (o : Option T) → walk_answer o ≡ giving f (polygon_of l) → is_some o ≡ is_polygon l
-walk_given {T} l f o e = some_given o ∙ ap is_given e ∙ same_given (polygon_of l)
+-- from any answer for it
+pub answer_given : {T : Type 0} (l : List ℕ) (f : List Place → T) {o : Answer T} → o ≡ giving f (polygon_of l) → is_given o ≡ is_polygon l
+answer_given {T} l f e = ap is_given e ∙ go (polygon_of l)
   where
-    some_given : (o : Option T) → is_some o ≡ is_given (walk_answer o)
-    some_given (Some t) = refl
-    some_given None = refl
+    go : (a : Answer (List Place)) → is_given (giving f a) ≡ is_given a
+    go (gives ring) = refl
+    go (refuses n i) = refl
 
-    same_given : (a : Answer (List Place)) → is_given (giving f a) ≡ is_given a
-    same_given (gives ring) = refl
-    same_given (refuses n i) = refl
+-- and from what a walk answers
+pub walk_given : {T : Type 0} (o : Option T) → is_some o ≡ is_given (walk_answer o)
+walk_given (Some t) = refl
+walk_given None = refl
 
 -- what the walk that adds edges answers
 pub walk_holds :

@@ -16,7 +16,9 @@ fn on_token(s: &[u8], at: usize) -> bool
     matches!(s.get(at), Some(b) if !text::is_space(*b))
 }
 
-// The pair from `at` on, after white space, which must follow it too, and the offset after it; none where the text ends there.
+// The pair from `at` on, after white space, which must follow it too, and the offset after it; none where the text ends there. Inlined, as each walk
+// calls it for each pair.
+#[inline]
 pub fn next_pair(s: &[u8], at: usize) -> Result<Option<(Place, usize)>, NotPair>
     ensures { result ≡ next_of s.now at }
 {
