@@ -13,7 +13,7 @@ use xml::CommentError;
 
 // A comment, whose text starts at an offset.
 fn comment_step(s: &[u8], m: Mode, from: usize) -> Result<(Mode, Event), Refusal>
-    ensures { taken_answer result ≡ comment_step s.now m (comment s.now from) }
+    ensures { tested s.now (taken_answer result) ≡ comment_step s.now m (comment s.now from) }
 {
     match xml::comments::read_comment(s, from) {
         Ok(next) if m.leaf.is_none() => Ok((m.moved(next, m.state, None), Event::Silent)),
@@ -24,7 +24,7 @@ fn comment_step(s: &[u8], m: Mode, from: usize) -> Result<(Mode, Event), Refusal
 
 // The document's end.
 fn stop_step(s: &[u8], m: Mode) -> Result<Option<(Mode, Event)>, Refusal>
-    ensures { step_answer result ≡ stop_step s.now m }
+    ensures { tested s.now (step_answer result) ≡ stop_step s.now m }
 {
     if m.state == modes::OVER {
         return Ok(None);
@@ -33,7 +33,7 @@ fn stop_step(s: &[u8], m: Mode) -> Result<Option<(Mode, Event)>, Refusal>
 }
 
 // The construct at the mode's offset.
-#[tactic(auto, using(crate::proofs::Tested::comment_tested, crate::proofs::Tested::stop_tested), unfolding(crate::specs::Constructs::construct_step))]
+#[tactic(auto, unfolding(crate::specs::Constructs::construct_step))]
 fn construct_step(s: &[u8], m: Mode) -> Result<Option<(Mode, Event)>, Refusal>
     ensures { tested s.now (step_answer result) ≡ construct_step s.now m }
 {

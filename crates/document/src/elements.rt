@@ -38,7 +38,7 @@ fn text_step(
 
 // A container's start tag, which ends before an offset.
 fn enter_step(m: Mode, state: usize, class: usize, next: usize) -> Result<(Mode, Event), Refusal>
-    ensures { taken_answer result ≡ enter_step m state class next }
+    ensures { (l : List ℕ) → tested l (taken_answer result) ≡ enter_step m state class next }
 {
     let mut infos = m.infos;
     if class == class::INFO {
@@ -62,7 +62,7 @@ fn next_state(m: Mode, class: usize) -> Result<usize, Refusal>
 }
 
 // The start tag of an element of a class, which ends before an offset.
-#[tactic(auto, using(crate::proofs::Tested::enter_tested), unfolding(crate::specs::Tags::open_step))]
+#[tactic(auto, unfolding(crate::specs::Tags::open_step))]
 pub fn open_step(s: &[u8], m: Mode, class: usize, next: usize) -> Result<(Mode, Event), Refusal>
     ensures { tested s.now (taken_answer result) ≡ open_step s.now m class next }
 {

@@ -1,5 +1,5 @@
 // Tags.
-ghost use Rattle.std.specs.Prelude.{◌≡◌, ◌<◌, length, drop};
+ghost use Rattle.std.specs.Prelude.{◌≡◌, ◌<◌, List, ℕ, length, drop};
 ghost use Rattle.xml_tags.specs.Tags.{tail, tag_end};
 ghost use Rattle.xml_tags.specs.Attributes.{name_space};
 ghost use Rattle.document.specs.Steps.{taken_answer};
@@ -33,7 +33,7 @@ fn other_step(s: &[u8], m: Mode, name: &[u8], n: usize) -> Result<(Mode, Event),
 // The alert's start tag, which binds a prefix.
 #[tactic(auto, unfolding(crate::specs::Tags::bound_step))]
 fn bound_step(s: &[u8], m: Mode, name: &[u8], bound: Binding) -> Result<(Mode, Event), Refusal>
-    ensures { taken_answer result ≡ bound_step s.now m name.now bound }
+    ensures { tested s.now (taken_answer result) ≡ bound_step s.now m name.now bound }
 {
     let prefix = text::part(s, bound.from, bound.until);
     if !schema::names::is_named(name_under(prefix, name), class::ALERT) {
@@ -52,7 +52,7 @@ fn bound_step(s: &[u8], m: Mode, name: &[u8], bound: Binding) -> Result<(Mode, E
 
 // The alert's start tag, whose name ends at n.
 fn alert_step(s: &[u8], m: Mode, name: &[u8], n: usize) -> Result<(Mode, Event), Refusal>
-    ensures { taken_answer result ≡ alert_step s.now m name.now (name_space s.now n) }
+    ensures { tested s.now (taken_answer result) ≡ alert_step s.now m name.now (name_space s.now n) }
 {
     match xml_tags::attributes::read_name_space(s, n) {
         Ok(bound) => bound_step(s, m, name, bound),
@@ -70,7 +70,7 @@ fn is_alert(m: Mode, name: &[u8]) -> bool
 }
 
 // A start tag whose name ends at n.
-#[tactic(auto, using(crate::proofs::Tested::alert_tested), unfolding(crate::specs::Tags::start_step))]
+#[tactic(auto, unfolding(crate::specs::Tags::start_step))]
 fn start_step(s: &[u8], m: Mode, name: &[u8], n: usize) -> Result<(Mode, Event), Refusal>
     ensures { tested s.now (taken_answer result) ≡ start_step s.now m name.now n }
 {
@@ -88,7 +88,7 @@ fn start_step(s: &[u8], m: Mode, name: &[u8], n: usize) -> Result<(Mode, Event),
 // A right end tag, which ends before an offset.
 #[tactic(auto, unfolding(crate::specs::Tags::close_step))]
 fn close_step(m: Mode, next: usize) -> Result<(Mode, Event), Refusal>
-    ensures { taken_answer result ≡ close_step m next }
+    ensures { (l : List ℕ) → tested l (taken_answer result) ≡ close_step m next }
 {
     if m.leaf.is_some() {
         return Ok((m.moved(next, m.state, None), Event::Silent));
@@ -113,7 +113,7 @@ fn is_right_end(s: &[u8], m: Mode, name: &[u8]) -> bool
 
 // An end tag whose name ends at n.
 fn end_step(s: &[u8], m: Mode, name: &[u8], n: usize) -> Result<(Mode, Event), Refusal>
-    ensures { taken_answer result ≡ end_step s.now m name.now (tail s.now n) }
+    ensures { tested s.now (taken_answer result) ≡ end_step s.now m name.now (tail s.now n) }
 {
     match xml_tags::ends::read_tail(s, n) {
         Some(Tail::Open(next)) if is_right_end(s, m, name) => close_step(m, next),
@@ -136,7 +136,7 @@ fn named_until(s: &[u8], from: usize) -> Result<usize, Refusal>
 }
 
 // The tag at the mode's offset.
-#[tactic(auto, using(crate::proofs::EndTags::end_tag_end, crate::proofs::Tested::end_tested), unfolding(crate::specs::Tags::tag_step, crate::specs::Tags::ended_step))]
+#[tactic(auto, using(crate::proofs::EndTags::end_tag_end), unfolding(crate::specs::Tags::tag_step, crate::specs::Tags::ended_step))]
 pub fn tag_step(s: &[u8], m: Mode) -> Result<(Mode, Event), Refusal>
     requires { m.at < length s.now }
     ensures { tested s.now (taken_answer result) ≡ tag_step s.now m }
