@@ -7,15 +7,16 @@ use native.Mathlib.Omega.{arith}
 use borrow.Author.Tests.{le-leb, lt-leb}
 use lib.IntN.{ℤ, pos, nat_abs, ◌-ℤ◌}
 use lib.ListN.{get_or}
+use lib.Signed.{mag}
 use mir.Syntax.{w32, w64}
 use mir.Val.{Fits, SFits}
 use mir.Facts.{to_z-of_z}
 use Rattle.text.specs.Answers.{gives, refuses}
 use Rattle.coordinates.specs.declared.Place.{Place}
-use Rattle.integers.specs.Bits.{read}
+use Rattle.integers.specs.Bits.{read, read_given}
 use Rattle.integers.specs.Magnitude.{abs_sub_zero}
 use Rattle.circle.specs.Cosine.{cosines}
-use Rattle.circle.specs.Circle.{cosine_at, units_of, latitude_apart, longitude_scaled, within_squares, in_circle, around_holds}
+use Rattle.circle.specs.Circle.{cosine_at, units_of, shorter_way, latitude_apart, longitude_scaled, within_squares, in_circle, around_holds}
 use Rattle.circle.proofs.Rules.{entry_le}
 
 -- ---- cosines
@@ -51,6 +52,17 @@ squares_high x y u h = sym (lt-leb (x * x + y * y) (u * u) (omega (arith, above 
 
 pub product_fits : (a k : ℕ) → a ≤ 1_800_000_000 → k ≤ 1_000_000 → Fits w64 (a * k)
 product_fits a k h g = let e : a * k ≤ 1_800_000_000 * 1_000_000 = mul-le-mul h g in record { fits = omega arith }
+
+-- ---- a place near a centre
+
+module _ (c p : Place) (u : ℕ) (hcy : mag c.lat < 2_147_483_648) (hcx : mag c.lon < 2_147_483_648)
+    (hpy : mag p.lat < 2_147_483_648) (hpx : mag p.lon < 2_147_483_648) where
+  -- by the two distances and the cosine, as they were read back
+  pub near_is :
+      (d k x y : ℕ) (r : Bool) → d ≡ shorter_way (nat_abs (read w32 p.lon -ℤ read w32 c.lon)) → k ≡ cosine_at (read w32 c.lat) → x ≡ d * k / 1_000_000
+      → y ≡ nat_abs (read w32 p.lat -ℤ read w32 c.lat) → r ≡ within_squares x y u
+      → r ≡ within_squares (longitude_scaled c p) (latitude_apart c p) u
+  near_is d k x y r ed ek ex ey er = er ∙ rw (ex, ed, ek, ey) (simp (read_given w32))
 
 -- ---- the answer
 
