@@ -3,9 +3,18 @@ ghost use Rattle.std.specs.Prelude.{◌≡◌};
 ghost use Rattle.text.specs.Rooms.{listing, after_listing};
 ghost use Rattle.events.specs.Running.{running};
 ghost use Rattle.warnbox.specs.Replies.{reply};
+ghost use Rattle.warnbox.specs.Sheets.{drawn_answer};
 
-use crate::replies::list_reply;
+use crate::replies::{Refused, tell};
 use events::{Entry, EventId};
+
+// Lists the running events, and gives how many they are.
+fn list(room: &mut [EventId], entries: &[Entry], time: u64) -> Result<usize, Refused>
+    ensures { (drawn_answer result ≡ listing room.old (running time entries.now))
+        × (room.new ≡ after_listing room.old (running time entries.now)) }
+{
+    Ok(events::lists::list_running(room, entries, time)?)
+}
 
 // Lists the running events; the value is how many they are.
 pub fn warnbox_running(room: &mut [EventId], entries: &[Entry], time: u64, value: &mut usize) -> u8
@@ -13,7 +22,5 @@ pub fn warnbox_running(room: &mut [EventId], entries: &[Entry], time: u64, value
         × (value.new ≡ (reply (listing room.old (running time entries.now))).value)
         × (room.new ≡ after_listing room.old (running time entries.now)) }
 {
-    let reply = list_reply(events::lists::list_running(room, entries, time));
-    *value = reply.value;
-    reply.number
+    tell(list(room, entries, time), value)
 }
