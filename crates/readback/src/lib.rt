@@ -9,10 +9,11 @@ mod sheets; // sheets.rt: the sentence of a sheet of either kind, where it has r
 
 ghost use Rattle.std.specs.Prelude.{◌≡◌};
 ghost use Rattle.sheet.specs.Sheet.{cap, warn};
+ghost use Rattle.sheet.specs.Reading.{sheet_in};
 ghost use Rattle.sheet.specs.Answers.{writing, write_answer, after};
 
 use crate::sheets::{Cap, write};
-use sheet::{CapFacts, WarnFacts, WriteError};
+use sheet::{CapFacts, Found, WarnFacts, WriteError, span_in};
 
 // The length of the longest sentence (sheet/specs/Sentence.antt: `longest`).
 pub const LONGEST: usize = 651;
@@ -40,4 +41,26 @@ pub fn write_warn(buffer: &mut [u8], start: usize, facts: WarnFacts) -> Result<u
     ensures { (write_answer result ≡ writing buffer.old start (warn facts)) × (buffer.new ≡ after buffer.old start (warn facts)) }
 {
     write(buffer, start, facts)
+}
+
+// Writes the sentence of a sheet that was found in a text.
+#[tactic(auto, unfolding(sheet::specs::Reading::sheet_in))]
+pub fn write_found(
+    buffer: &mut [u8],
+    start: usize,
+    text: &[u8],
+    found: Found,
+) -> Result<usize, WriteError>
+    ensures { (write_answer result ≡ writing buffer.old start (sheet_in text.now found)) × (buffer.new ≡ after buffer.old start (sheet_in text.now found)) }
+{
+    match found {
+        Found::Cap(facts, sender, name) => write_cap(
+            buffer,
+            start,
+            facts,
+            span_in(text, sender),
+            span_in(text, name),
+        ),
+        Found::Warn(facts) => write_warn(buffer, start, facts),
+    }
 }
