@@ -11,6 +11,7 @@ ghost use Rattle.buffer.specs.Writing.{write_text, text_answer, after_text};
 pub struct NoRoom;
 
 // Writes as much of src as fits into dst from the offset at on, and gives the next start.
+// kept: dst and at as two parameters; of a buffer in a cursor's struct nothing is known once the cursor ends, so no proof closed
 pub fn put(dst: &mut [u8], at: usize, src: &[u8]) -> usize
     ensures { Put dst.old at src.now dst.new result }
 {
