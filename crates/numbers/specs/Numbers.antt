@@ -137,6 +137,13 @@ numbers_of_part m t c sender name p =
     ∷ urgency_number p.urgency ∷ severity_number p.severity ∷ certainty_number p.certainty ∷ stated_of p.lasting ∷ seconds_of p.lasting
     ∷ sender.start ∷ sender.len ∷ name.start ∷ name.len ∷ []
 
+-- the fifth to the eleventh
+abbrev pub part_numbers : Option Part → List ℕ
+part_numbers None = 0 ∷ 0 ∷ 0 ∷ 0 ∷ 0 ∷ 0 ∷ 0 ∷ []
+part_numbers (Some p) =
+    p.number ∷ p.total
+    ∷ urgency_number p.urgency ∷ severity_number p.severity ∷ certainty_number p.certainty ∷ stated_of p.lasting ∷ seconds_of p.lasting ∷ []
+
 abbrev pub with_parts : (message status scope : ℕ) (sender name : Span) → Option Part → List ℕ
 with_parts m t c sender name None = numbers_of_none m t c sender name
 with_parts m t c sender name (Some p) = numbers_of_part m t c sender name p

@@ -1,9 +1,9 @@
 // The numbers of a sheet.
 ghost use Rattle.std.specs.Prelude.{◌≡◌};
-ghost use Rattle.numbers.specs.Numbers.{stated_of, seconds_of, numbers_of_none, numbers_of_part, cap_numbers, warn_numbers};
+ghost use Rattle.numbers.specs.Numbers.{stated_of, seconds_of, part_numbers, cap_numbers, warn_numbers};
 
 use codes::Code;
-use sheet::{CapFacts, Lasting, Part, Parts, Span, WarnFacts};
+use sheet::{CapFacts, Lasting, Parts, Span, WarnFacts};
 
 fn stated_of(lasting: Lasting) -> u64
     ensures { result ≡ stated_of lasting }
@@ -17,47 +17,14 @@ fn seconds_of(lasting: Lasting) -> u64
     lasting.unwrap_or(0) as u64
 }
 
-// The numbers of a CAP sheet without parts, its codes by their numbers.
-#[tactic(auto, unfolding(crate::specs::Numbers::numbers_of_none))]
-fn numbers_of_none(message: u64, status: u64, scope: u64, sender: Span, name: Span) -> [u64; 15]
-    ensures { result ≡ numbers_of_none message status scope sender name }
+// The numbers of the part that a CAP sheet tells of; all 0 where it tells of none.
+fn part_numbers(parts: Parts) -> [u64; 7]
+    ensures { result ≡ part_numbers parts }
 {
+    let Some(p) = parts else {
+        return [0; 7];
+    };
     [
-        1,
-        message,
-        status,
-        scope,
-        0,
-        0,
-        0,
-        0,
-        0,
-        0,
-        0,
-        sender.start as u64,
-        sender.len as u64,
-        name.start as u64,
-        name.len as u64,
-    ]
-}
-
-// The numbers of a CAP sheet of a part.
-#[tactic(auto, unfolding(crate::specs::Numbers::numbers_of_part))]
-fn numbers_of_part(
-    message: u64,
-    status: u64,
-    scope: u64,
-    sender: Span,
-    name: Span,
-    p: Part,
-) -> [u64; 15]
-    ensures { result ≡ numbers_of_part message status scope sender name p }
-{
-    [
-        1,
-        message,
-        status,
-        scope,
         p.number as u64,
         p.total as u64,
         p.urgency.number() as u64,
@@ -65,10 +32,6 @@ fn numbers_of_part(
         p.certainty.number() as u64,
         stated_of(p.lasting),
         seconds_of(p.lasting),
-        sender.start as u64,
-        sender.len as u64,
-        name.start as u64,
-        name.len as u64,
     ]
 }
 
@@ -76,13 +39,24 @@ fn numbers_of_part(
 pub fn cap_numbers(f: CapFacts, sender: Span, name: Span) -> [u64; 15]
     ensures { result ≡ cap_numbers f sender name }
 {
-    let message = f.message.number() as u64;
-    let status = f.status.number() as u64;
-    let scope = f.scope.number() as u64;
-    match f.parts {
-        None => numbers_of_none(message, status, scope, sender, name),
-        Some(p) => numbers_of_part(message, status, scope, sender, name, p),
-    }
+    let [number, total, urgency, severity, certainty, stated, seconds] = part_numbers(f.parts);
+    [
+        1,
+        f.message.number() as u64,
+        f.status.number() as u64,
+        f.scope.number() as u64,
+        number,
+        total,
+        urgency,
+        severity,
+        certainty,
+        stated,
+        seconds,
+        sender.start as u64,
+        sender.len as u64,
+        name.start as u64,
+        name.len as u64,
+    ]
 }
 
 // The numbers of a WARN sheet.
