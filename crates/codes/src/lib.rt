@@ -5,9 +5,8 @@
 pub mod list; // list.rt: the numbers of the lists
 pub mod texts; // texts.rt: codes by their texts
 pub mod values; // values.rt: values by their numbers
-mod code; // code.rt: what the values of all lists share
 
-pub use code::Code;
+pub use values::Code;
 
 #[derive(Clone, Copy, Debug, PartialEq, Eq)]
 pub enum MessageType {
