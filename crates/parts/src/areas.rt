@@ -6,7 +6,7 @@ ghost use Rattle.document.specs.Documents.{elements_of};
 ghost use Rattle.parts.specs.Places.{asked_about};
 ghost use Rattle.parts.specs.Reasons.{reason_of, why_answer};
 ghost use Rattle.parts.specs.Reading.{answer_of, event_answer, most};
-ghost use Rattle.parts.specs.Gathering.{shape_answer, answer_at, kind_of, with_shape, no_shapes, looked, seen, view_of, AtMost};
+ghost use Rattle.parts.specs.Gathering.{shape_answer, answer_at, kind_of, with_shape, looked, seen, view_of, AtMost};
 ghost use Rattle.parts.specs.Counts.{seen_more, at_most_wider};
 
 use crate::reading::{Question, read, test};
@@ -25,19 +25,6 @@ pub struct Shapes {
     pub circles: usize,
     pub count: usize,
     pub first: Option<ShapeAt>,
-}
-
-// Nothing seen yet.
-fn no_shapes() -> Shapes
-    ensures { result ≡ no_shapes }
-{
-    Shapes {
-        areas: 0,
-        polygons: 0,
-        circles: 0,
-        count: 0,
-        first: None,
-    }
 }
 
 // The kind of shape that a text of a class writes, if it writes one.
@@ -66,6 +53,15 @@ fn holds(place: Place, kind: ShapeKind, from: usize, t: &[u8]) -> Result<bool, R
 }
 
 impl Shapes {
+    // Nothing seen yet.
+    const NONE: Shapes = Shapes {
+        areas: 0,
+        polygons: 0,
+        circles: 0,
+        count: 0,
+        first: None,
+    };
+
     // A shape of a kind comes, the first that holds the place or not.
     fn add(&mut self, kind: ShapeKind, first: bool)
         requires { AtMost most self.old }
@@ -163,7 +159,7 @@ impl Question for Around {
 pub fn read_shapes(s: &[u8], part: usize, place: Place) -> Result<(usize, Shapes), Refusal>
     ensures { answer_of result ≡ view_of part place s.now }
 {
-    read(s, &Around { part, place }, no_shapes())
+    read(s, &Around { part, place }, Shapes::NONE)
 }
 
 // The reason by what was seen.

@@ -119,8 +119,7 @@ pub fn cap_sheet(s: &[u8], part: usize) -> Result<CapSheet, SheetError>
 pub fn cap_why(s: &[u8], part: usize, place: Place) -> Result<Why, PlaceError>
     ensures { why_answer result ≡ cap_why part place s.now }
 {
-    // a slice that is made here stays in registers; one that is handed in is fetched from memory for each construct
-    let (total, shapes) = areas::read_shapes(text::skip(s, 0), part, place)?;
+    let (total, shapes) = areas::read_shapes(s, part, place)?;
     areas::why_in_part(part, total, &shapes, place)
 }
 

@@ -1,8 +1,8 @@
 // Where the texts of a sheet stand, gathered while the document is read.
-ghost use Rattle.std.specs.Prelude.{◌≡◌, ◌+◌, ◌<◌, ◌≤◌, length};
+ghost use Rattle.std.specs.Prelude.{◌≡◌, ◌+◌, ◌<◌, ◌≤◌};
 ghost use Rattle.schema.specs.Classes.{identifier, urgency};
 ghost use Rattle.parts.specs.Reading.{answer_of};
-ghost use Rattle.parts.specs.Gathering.{kept, stored, alert_span, part_span, noted, no_facts, reading_of};
+ghost use Rattle.parts.specs.Gathering.{kept, stored, alert_span, part_span, noted, reading_of};
 
 use crate::reading::{Question, read, test};
 use document::{Event, Refusal};
@@ -20,7 +20,16 @@ pub struct Facts {
     pub part: [Span; KEPT],
 }
 
+// No text, at no offset.
+const NOWHERE: Span = Span { start: 0, len: 0 };
+
 impl Facts {
+    // Nothing gathered yet.
+    const NONE: Facts = Facts {
+        alert: [NOWHERE; KEPT],
+        part: [NOWHERE; KEPT],
+    };
+
     // Where the text of one of the alert's own classes stands.
     pub fn alert(&self, class: usize) -> Span
         requires { (identifier ≤ class) × (class < identifier + kept) }
@@ -35,17 +44,6 @@ impl Facts {
         ensures { result ≡ part_span self.now class }
     {
         self.part[class - class::URGENCY]
-    }
-}
-
-// Nothing gathered yet.
-fn no_facts() -> Facts
-    ensures { result ≡ no_facts }
-{
-    let nowhere = Span { start: 0, len: 0 };
-    Facts {
-        alert: [nowhere; KEPT],
-        part: [nowhere; KEPT],
     }
 }
 
@@ -96,5 +94,5 @@ impl Question for Texts {
 pub fn read_facts(s: &[u8], part: usize) -> Result<(usize, Facts), Refusal>
     ensures { answer_of result ≡ reading_of part s.now }
 {
-    read(s, &Texts { part }, no_facts())
+    read(s, &Texts { part }, Facts::NONE)
 }
