@@ -11,3 +11,4 @@ pub mod Nesting
 pub mod OtherStates
 pub mod Exact
 pub mod Prefixes
+pub mod Ruled

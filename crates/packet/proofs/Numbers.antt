@@ -32,17 +32,21 @@ from_more n b [] = refl
 from_more n b (a ∷ l) = from_more (0x100 * n + a) b l
 
 module _ (p : List ℕ) (at : ℕ) where
-  number_none : number_of 0 at p ≡ 0
+  pub number_none : number_of 0 at p ≡ 0
   unfolding number_of big_endian_from
   number_none = refl
 
-  number_more : (i : ℕ) → at + i < length p → number_of (i + 1) at p ≡ number_of i at p * 256 + get_or p (at + i) 0
+  pub number_more : (i : ℕ) → at + i < length p → number_of (i + 1) at p ≡ number_of i at p * 256 + get_or p (at + i) 0
   unfolding number_of
   number_more i h =
       ap (λ (k : ℕ). big_endian (take k (drop at p))) (add-one i)
       ∙ ap big_endian (take-suc (drop at p) i 0 (rw (length-drop at p) (omega arith)))
       ∙ from_more 0 (get_or (drop at p) i 0) (take i (drop at p))
       ∙ rw (get_or-drop at p i 0, mul_comm 256)
+
+  -- a reader that has read i bytes, at most `width`, and goes on no more, has read them all
+  pub number_whole : (n i width : ℕ) → i ≤ width → width ≤ i → n ≡ number_of i at p → n < 256 ^ i → (n ≡ number_of width at p) × (n < 256 ^ width)
+  number_whole n i width h g e l = let q : i ≡ width = omega arith in (rw (← q) e, rw (← q) l)
 
   -- where the list has ended, a width more adds nothing
   number_end : (i : ℕ) → length p ≤ at + i → number_of (i + 1) at p ≡ number_of i at p
