@@ -8,7 +8,8 @@ ghost use Rattle.sheet.specs.Answers.{writing, write_answer, after};
 ghost use Rattle.sheet.specs.Reading.{sheet_in};
 ghost use Rattle.output.specs.Lines.{line_of};
 
-use sheet::{Found, WriteError, span_in};
+use sheet::{Found, WriteError};
+use shown::Facts;
 use std::io;
 use std::io::Write;
 
@@ -19,9 +20,12 @@ fn put_sentence(buffer: &mut [u8], text: &[u8], found: Found) -> Result<usize, W
 {
     match found {
         Found::Cap(facts, sender, name) => {
-            let sender = span_in(text, sender);
-            let name = span_in(text, name);
-            readback::write_cap(buffer, 0, facts, sender, name)
+            let shown = Facts {
+                facts,
+                sender,
+                name,
+            };
+            shown::write_shown(buffer, 0, text, shown)
         }
         Found::Warn(facts) => readback::write_warn(buffer, 0, facts),
     }
