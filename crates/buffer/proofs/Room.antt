@@ -11,11 +11,11 @@ use Rattle.text.specs.Answers.{gives, refuses}
 use Rattle.buffer.specs.Cursor.{cursor, put_byte, put_text, Put}
 use Rattle.buffer.specs.Writing.{written, write_text, after_text}
 
-pub byte_in : (d : List ℕ) (at b : ℕ) → at < length d → put_byte (cursor d at) b ≡ cursor (set d at b) (at + 1)
+byte_in : (d : List ℕ) (at b : ℕ) → at < length d → put_byte (cursor d at) b ≡ cursor (set d at b) (at + 1)
 unfolding put_byte
 byte_in d at b h = rw (lt-ltb at (length d) h)
 
-text_in : (d : List ℕ) (at n : ℕ) (s : List ℕ) → n ≡ at + length s → n ≤ length d → put_text (cursor d at) s ≡ cursor (sets d at s) n
+pub text_in : (d : List ℕ) (at n : ℕ) (s : List ℕ) → n ≡ at + length s → n ≤ length d → put_text (cursor d at) s ≡ cursor (sets d at s) n
 unfolding put_text
 text_in d at n [] e h = ap (cursor d) (omega arith)
 text_in d at n (b ∷ s) e h =

@@ -1,28 +1,25 @@
 -- The way from a centre to a place: cosines, squares, and the answer by cases. A signed value that a callee was passed is read back: `read w32`.
-use mathlib.Core.Path.{◌≡◌, sym, ap, ◌∙◌}
+use mathlib.Core.Path.{◌≡◌, sym, ◌∙◌}
 use mathlib.Core.Bool.{Bool, false}
 use Prim.Native.Nat.{ℕ, ◌+◌, ◌*◌, ◌/◌, ◌≤◌, ◌<◌}
 use native.Mathlib.Nat.{mul-le-mul, mul-lt-mul_of_pos_right, le_of_lt, le_refl, lt_of_le_of_lt}
 use native.Mathlib.Omega.{arith}
 use borrow.Author.Tests.{le-leb, lt-leb}
 use lib.IntN.{ℤ, pos, nat_abs, ◌-ℤ◌}
-use lib.ListN.{get_or, get_or-eq_default}
+use lib.ListN.{get_or}
 use lib.Signed.{mag}
 use mir.Syntax.{w32, w64}
 use mir.Val.{Fits, SFits}
 use mir.Facts.{to_z-of_z}
 use Rattle.text.specs.Answers.{gives, refuses}
 use Rattle.coordinates.specs.declared.Place.{Place}
-use Rattle.integers.specs.Bits.{read, read_given, apart}
+use Rattle.integers.specs.Bits.{read, read_given}
 use Rattle.integers.specs.Magnitude.{abs_sub_zero}
 use Rattle.circle.specs.Cosine.{cosines}
-use Rattle.circle.specs.Circle.{cosine_at, units_of, shorter_way, within_squares, in_circle, around_holds}
-use Rattle.circle.proofs.Rules.{entries, entry_le}
+use Rattle.circle.specs.Circle.{cosine_at, units_of, shorter_way, latitude_apart, longitude_scaled, within_squares, in_circle, around_holds}
+use Rattle.circle.proofs.Rules.{entry_le}
 
 -- ---- cosines
-
-pub cosine_none : (i : ℕ) → 900 < i → 0 ≡ get_or cosines i 0
-cosine_none i h = let g : 901 ≤ i = omega arith in sym (get_or-eq_default cosines 0 {n = i} (rw entries g))
 
 -- r is the cosine by the tenths d of a latitude
 pub cosine_is :
@@ -58,16 +55,14 @@ product_fits a k h g = let e : a * k ≤ 1_800_000_000 * 1_000_000 = mul-le-mul 
 
 -- ---- a place near a centre
 
-module _ (clat clon lat lon : ℤ) (u : ℕ) (f₁ : SFits w32 clat) (f₂ : SFits w32 clon) (f₃ : SFits w32 lat) (f₄ : SFits w32 lon) where
+module _ (c p : Place) (u : ℕ) (hcy : mag c.lat < 2_147_483_648) (hcx : mag c.lon < 2_147_483_648)
+    (hpy : mag p.lat < 2_147_483_648) (hpx : mag p.lon < 2_147_483_648) where
+  -- by the two distances and the cosine, as they were read back
   pub near_is :
-      (d k x y : ℕ) (r : Bool) → d ≡ shorter_way (nat_abs (read w32 lon -ℤ read w32 clon)) → k ≡ cosine_at (read w32 clat) → x ≡ d * k / 1_000_000
-      → y ≡ nat_abs (read w32 lat -ℤ read w32 clat) → r ≡ within_squares x y u
-      → r ≡ within_squares (shorter_way (nat_abs (lon -ℤ clon)) * cosine_at clat / 1_000_000) (nat_abs (lat -ℤ clat)) u
-  near_is d k x y r ed ek ex ey er =
-      let ed' : d ≡ shorter_way (nat_abs (lon -ℤ clon)) = ed ∙ rw (to_z-of_z f₄, to_z-of_z f₂) in
-      let ek' : k ≡ cosine_at clat = ek ∙ ap cosine_at (to_z-of_z f₁) in
-      let ey' = apart lat clat f₃ f₁ y ey in
-      er ∙ rw (ex, ed', ek', ey')
+      (d k x y : ℕ) (r : Bool) → d ≡ shorter_way (nat_abs (read w32 p.lon -ℤ read w32 c.lon)) → k ≡ cosine_at (read w32 c.lat) → x ≡ d * k / 1_000_000
+      → y ≡ nat_abs (read w32 p.lat -ℤ read w32 c.lat) → r ≡ within_squares x y u
+      → r ≡ within_squares (longitude_scaled c p) (latitude_apart c p) u
+  near_is d k x y r ed ek ex ey er = er ∙ rw (ex, ed, ek, ey) (simp (read_given w32))
 
 -- ---- the answer
 
@@ -76,15 +71,8 @@ module _ (c : Place) (metres : ℕ) (p : Place) where
   unfolding around_holds
   too_wide h = rw (lt-leb metres 20_000_000 h)
 
-  module _ (h : metres ≤ 20_000_000) (hcy : mag c.lat < 2_147_483_648) (hcx : mag c.lon < 2_147_483_648)
-      (hpy : mag p.lat < 2_147_483_648) (hpx : mag p.lon < 2_147_483_648) (u : ℕ) (eu : u ≡ units_of metres) (r : Bool)
-      (er : r ≡ within_squares (shorter_way (nat_abs (read w32 p.lon -ℤ read w32 c.lon)) * cosine_at (read w32 c.lat) / 1_000_000)
-      (nat_abs (read w32 p.lat -ℤ read w32 c.lat)) u) where
-    plain : r ≡ in_circle c metres p
-    unfolding in_circle
-    plain = er ∙ simp (read_given w32, eu)
-
-    -- the answer, by whether the place is near
-    pub is_side : around_holds c metres p ≡ gives r
-    unfolding around_holds
-    is_side = rw (le-leb metres 20_000_000 h, ← plain)
+  pub is_side :
+      metres ≤ 20_000_000 → (u : ℕ) → u ≡ units_of metres → (r : Bool) → r ≡ within_squares (longitude_scaled c p) (latitude_apart c p) u
+      → gives r ≡ around_holds c metres p
+  unfolding around_holds in_circle
+  is_side h u eu r er = rw (le-leb metres 20_000_000 h, er, eu)

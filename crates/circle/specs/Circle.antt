@@ -1,12 +1,11 @@
 -- Circles (document 01, "Is the studio inside", as amended by document 02, [3]): their texts, and whether a place lies inside.
-use Rattle.std.specs.Prelude.{Bool, cond, List, [], ◌∷◌, ℕ, ◌+◌, ◌-◌, ◌*◌, ◌/◌, ◌%◌, min, leb, ℤ, nat_abs, ◌-ℤ◌, get_or}
+use Rattle.std.specs.Prelude.{Bool, cond, List, [], ◌∷◌, Option, Some, None, ℕ, ◌+◌, ◌-◌, ◌*◌, ◌/◌, ◌%◌, min, leb, ℤ, nat_abs, ◌-ℤ◌, get_or}
 use Rattle.text.specs.Answers.{Answer, gives, refuses, answer_and_then, giving}
 use Rattle.text.specs.Tokens.{tokens}
 use Rattle.coordinates.specs.declared.Place.{Place}
 use Rattle.coordinates.specs.Place.{pair_of}
 use Rattle.coordinates.specs.Decimal.{radius_of}
 use Rattle.circle.specs.declared.Circle.{Circle}
-use Rattle.circle.specs.declared.Circle.TheVariants.{Around, Fault}
 use Rattle.circle.specs.Cosine.{cosines}
 
 -- ---- "A circle is a pair, white space and a radius, white space leading and trailing alike": two tokens
@@ -24,9 +23,9 @@ circle_tokens (a ∷ b ∷ c ∷ l) = refuses 22 0
 unfoldable pub circle_of : List ℕ → Answer (Place × ℕ)
 circle_of l = circle_tokens (tokens l)
 
-abbrev pub circle_answer : Circle → Answer (Place × ℕ)
-circle_answer (Around c m) = gives (c, m)
-circle_answer Fault = refuses 22 0
+abbrev pub circle_answer : Option Circle → Answer (Place × ℕ)
+circle_answer (Some c) = gives (c.centre, c.metres)
+circle_answer None = refuses 22 0
 
 -- ---- the radius, and the way from the centre to a place, in units of 1e-7 degree
 

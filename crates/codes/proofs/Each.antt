@@ -1,18 +1,25 @@
 -- A rule of codes, tested once over the numbers of all lists.
 use mathlib.Core.Path.{◌≡◌, ◌∙◌}
-use mathlib.Core.Bool.{Bool, true, cond, false≢true}
+use mathlib.Core.Bool.{Bool, true, false, cond, ◌&&◌, false≢true}
 use mathlib.Core.List.{[], ◌∷◌}
-use Prim.Native.Nat.{ℕ, ◌<◌}
+use Prim.Native.Nat.{ℕ, ◌≤◌, ◌<◌}
 use native.Mathlib.Omega.{arith}
 use lib.Dec.{T, leb, ltb, eqb}
-use lib.ListN.{length, get_or}
-use borrow.Author.Tests.{leb-true, eqb-true, ltb-true, ltb-false}
+use lib.ListN.{length, get_or, get_or-eq_default}
+use borrow.Author.Tests.{leb-true, lt-leb, eqb-true, ltb-true, ltb-false}
 use Rattle.text.specs.Logic.{by_test, and_right, true_T, below, below_at}
 use Rattle.text.specs.Search.{find}
 use Rattle.codes.specs.Lists.{lists, codes, is_number, small_code_of, small_text}
 use Rattle.codes.specs.Values.{message_number, status_number, scope_number, urgency_number, severity_number, certainty_number}
 use Rattle.codes.specs.Values.{message_at, status_at, scope_at, urgency_at, severity_at, certainty_at}
-use Rattle.codes.proofs.Table.{no_list, no_number}
+
+-- past the last list there is none
+no_list : (l : ℕ) → 8 ≤ l → codes l ≡ []
+unfolding lists
+no_list l h = get_or-eq_default lists [] h
+
+no_number : (k : ℕ) → false ≡ leb 1 k && leb k 0
+no_number k = by_test (leb 1 k) (λ e. rw (e, lt-leb k 0 (omega (arith, leb-true 1 k e)))) (λ e. rw e)
 
 -- no list has more than 12 codes
 few : ℕ → Bool

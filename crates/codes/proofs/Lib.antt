@@ -1,4 +1,3 @@
-pub mod Table
 pub mod Search
 pub mod Numbers
 pub mod Each

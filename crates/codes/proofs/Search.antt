@@ -1,68 +1,29 @@
--- A text is looked for among the codes of a list, the first of them first; and a code is found by its number.
+-- A text's number among texts is its index, counted from 1, or 0.
 use mathlib.Core.Path.{◌≡◌, refl, sym, ap, ◌∙◌}
-use mathlib.Core.Bool.{true, false}
-use mathlib.Core.List.{List, [], ◌∷◌}
-use Prim.Native.Nat.{ℕ, zero, suc, ◌+◌, ◌-◌, ◌≤◌, ◌<◌}
-use native.Mathlib.Omega.{arith}
-use lib.ListN.{length, get_or, get_or-eq_default}
-use Rattle.text.specs.Logic.{eql}
+use mathlib.Core.Bool.{Bool}
+use mathlib.Core.List.{List, [], ◌∷◌, map}
+use Prim.Native.Nat.{ℕ, ◌+◌}
+use Rattle.std.proofs.Common.{Option, Some, None, Bor}
+use Rattle.std.specs.List.{position, position_from}
+use Rattle.std.proofs.lemmas.Iterator.Adapters.{position_from-zero}
+use Rattle.text.specs.Logic.{by_test, eql}
 use Rattle.text.specs.Search.{find}
-use Rattle.codes.specs.Table.{cut, cuts, before, list_in}
 
-module _ (all : List ℕ) where
-  cuts_next : (i end : ℕ) → i < end → cuts all (end - i) i ≡ cut all i ∷ cuts all (end - (i + 1)) (i + 1)
-  unfolding cuts
-  cuts_next i end h = let z : end - i ≡ suc (end - (i + 1)) = omega arith in rw z
+abbrev pub numbered : Option ℕ → ℕ
+numbered (Some i) = i + 1
+numbered None = 0
 
-  cuts_none : (i end : ℕ) → end ≤ i → cuts all (end - i) i ≡ []
-  unfolding cuts
-  cuts_none i end h = let z : end - i ≡ 0 = omega arith in rw z
+module _ (t : List ℕ) where
+  abbrev pub is_text : Bor (List ℕ) → Bool
+  is_text text = eql t text.now
 
-  cuts_length : (n i : ℕ) → length (cuts all n i) ≡ n
-  unfolding cuts
-  cuts_length zero i = refl
-  cuts_length (suc n) i = ap suc (cuts_length n (i + 1))
+  abbrev pub bytes : List (Bor (List ℕ)) → List (List ℕ)
+  bytes texts = map (λ (text : Bor (List ℕ)). text.now) texts
 
-  cuts_at : (n i j : ℕ) → j < n → get_or (cuts all n i) j [] ≡ cut all (i + j)
-  unfolding cuts
-  cuts_at zero i j h = absurd (omega arith)
-  cuts_at (suc n) i zero h = ap (cut all) (omega arith)
-  cuts_at (suc n) i (suc j) h = cuts_at n (i + 1) j (omega arith) ∙ ap (cut all) (omega arith)
+  found_from : (texts : List (Bor (List ℕ))) (i : ℕ) → find (i + 1) t (bytes texts) ≡ numbered (position_from is_text i texts)
+  unfolding find
+  found_from [] i = refl
+  found_from (x ∷ texts) i = by_test (eql t x.now) (λ e. rw e) (λ e. rw e (found_from texts (i + 1)))
 
-  -- ---- the number of a text among the codes from index i on, counted from index first
-
-  module _ (t : List ℕ) (first i end : ℕ) where
-    pub found_here : i < end → eql t (cut all i) ≡ true → find (i - first + 1) t (cuts all (end - i) i) ≡ i - first + 1
-    unfolding find
-    found_here h e = rw (cuts_next i end h, e)
-
-    pub found_later :
-        i < end → first ≤ i → eql t (cut all i) ≡ false
-        → find (i - first + 1) t (cuts all (end - i) i) ≡ find (i + 1 - first + 1) t (cuts all (end - (i + 1)) (i + 1))
-    unfolding find
-    found_later h b e = let z : i + 1 - first ≡ i - first + 1 = omega arith in rw (cuts_next i end h, e, z)
-
-    pub found_start : find (first - first + 1) t (cuts all (end - first) first) ≡ find 1 t (cuts all (end - first) first)
-    found_start = let z : first - first ≡ 0 = omega arith in rw z
-
-    pub found_nowhere : end ≤ i → find (i - first + 1) t (cuts all (end - i) i) ≡ 0
-    unfolding find
-    found_nowhere h = rw (cuts_none i end h)
-
-  module _ (l : ℕ) where
-    -- ---- the text of a number
-
-    pub text_before : (k : ℕ) → k < 1 → [] ≡ get_or ([] ∷ list_in all l) k []
-    text_before k h = let z : k ≡ 0 = omega arith in rw z
-
-    pub text_past : (k : ℕ) → before (l + 1) - before l < k → [] ≡ get_or ([] ∷ list_in all l) k []
-    unfolding list_in
-    text_past k h =
-        let n = cuts_length (before (l + 1) - before l) (before l) in
-        sym (get_or-eq_default ([] ∷ list_in all l) [] {n = k} (rw (list_in, n) (omega arith)))
-
-    pub text_at : (k : ℕ) → 1 ≤ k → k ≤ before (l + 1) - before l → cut all (before l + (k - 1)) ≡ get_or ([] ∷ list_in all l) k []
-    unfolding list_in
-    text_at k a b =
-        let z : k ≡ suc (k - 1) = omega arith in
-        sym (ap (λ (j : ℕ). get_or ([] ∷ list_in all l) j []) z ∙ cuts_at (before (l + 1) - before l) (before l) (k - 1) (omega arith))
+  pub found : (texts : List (Bor (List ℕ))) → find 1 t (bytes texts) ≡ numbered (position is_text texts)
+  found texts = found_from texts 0 ∙ ap numbered (sym (position_from-zero is_text texts))

@@ -6,7 +6,9 @@ pub mod list; // list.rt: the numbers of the lists
 pub mod texts; // texts.rt: codes by their texts
 pub mod values; // values.rt: values by their numbers
 
-#[derive(Clone, Copy)]
+pub use values::Code;
+
+#[derive(Clone, Copy, Debug, PartialEq, Eq)]
 pub enum MessageType {
     Alert,
     Update,
@@ -15,7 +17,7 @@ pub enum MessageType {
     Error,
 }
 
-#[derive(Clone, Copy)]
+#[derive(Clone, Copy, Debug, PartialEq, Eq)]
 pub enum Status {
     Actual,
     Exercise,
@@ -24,14 +26,14 @@ pub enum Status {
     Draft,
 }
 
-#[derive(Clone, Copy)]
+#[derive(Clone, Copy, Debug, PartialEq, Eq)]
 pub enum Scope {
     Public,
     Restricted,
     Private,
 }
 
-#[derive(Clone, Copy)]
+#[derive(Clone, Copy, Debug, PartialEq, Eq)]
 pub enum Urgency {
     Immediate,
     Expected,
@@ -40,7 +42,7 @@ pub enum Urgency {
     Unknown,
 }
 
-#[derive(Clone, Copy)]
+#[derive(Clone, Copy, Debug, PartialEq, Eq)]
 pub enum Severity {
     Extreme,
     Severe,
@@ -49,7 +51,7 @@ pub enum Severity {
     Unknown,
 }
 
-#[derive(Clone, Copy)]
+#[derive(Clone, Copy, Debug, PartialEq, Eq)]
 pub enum Certainty {
     Observed,
     Likely,

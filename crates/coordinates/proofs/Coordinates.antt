@@ -1,5 +1,5 @@
 -- A coordinate, by each way through its reader: its sign, and its decimal within the limit.
-use mathlib.Core.Path.{◌≡◌, refl, sym, ◌∙◌}
+use mathlib.Core.Path.{◌≡◌, refl, sym, ap, ◌∙◌}
 use mathlib.Core.Bool.{Bool, true, false, cond, ◌||◌}
 use mathlib.Core.List.{List}
 use Prim.Native.Char.{code}
@@ -13,27 +13,19 @@ use lib.Signed.{mag}
 use mir.Syntax.{w32}
 use mir.Val.{SFits, to_z, of_z}
 use mir.Facts.{to_z_pos, to_z-of_z}
+use Rattle.std.specs.Prelude.{Some, None}
 use Rattle.text.specs.Answers.{gives, refuses}
-use Rattle.text.specs.Logic.{by_test, first_arm, second_arm, clash}
+use Rattle.coordinates.proofs.Arms.{some_arm, none_arm}
 use Rattle.integers.specs.Magnitude.{abs_neg, signed}
 use Rattle.integers.specs.Bits.{read, read_given, fits_abs}
 use Rattle.coordinates.specs.Decimal.{leads, scaled, decimal_length, decimal_at}
 use Rattle.coordinates.specs.Place.{sign_length, unsigned, is_coordinate, coordinate_value, coordinate_length, coordinate_at, degrees_of}
-use Rattle.coordinates.specs.declared.Decimal.TheVariants as decimal
-use Rattle.coordinates.specs.declared.Coordinate.TheVariants.{Value, Fault}
-use Rattle.coordinates.proofs.Leading.{leads_in}
 use Rattle.coordinates.proofs.Decimals.{DecimalRead, decimal_read, no_decimal_read}
 
 -- ---- the sign
 
 -- plus and minus as the bytes at i were tested
 module _ (s : List ℕ) (i : ℕ) (plus minus : Bool) (p : plus ≡ leads (code "+") (drop i s)) (m : minus ≡ leads (code "-") (drop i s)) where
-  pub sign_in : plus || minus ≡ true → i < length s
-  sign_in e =
-      by_test (leads (code "+") (drop i s))
-      (λ t. leads_in s i (code "+") t)
-      (λ t. leads_in s i (code "-") (rw (p, m, t) at e))
-
   pub sign_some : plus || minus ≡ true → i + 1 ≡ i + sign_length (drop i s)
   sign_some e = rw (rw (p, m) at e)
 
@@ -58,9 +50,6 @@ module _ (m : ℕ) (h : m ≤ 1_800_000_000) where
 
 -- ---- the reader's answers
 
-fault≢value : (z : ℤ) (e : ℕ) → Fault ≡ Value z e → ⊥
-fault≢value z e q = clash (cc)
-
 signed_is : (b : Bool) (m : ℕ) → signed b m ≡ cond b (neg_ℤ (pos m)) (pos m)
 signed_is true m = refl
 signed_is false m = refl
@@ -69,21 +58,21 @@ module _ (s : List ℕ) (at limit start : ℕ) (b : start ≡ at + sign_length (
   rest : drop start s ≡ unsigned (drop at s)
   rest = rw b (sym (drop-drop (sign_length (drop at s)) at s))
 
-  pub no_decimal : decimal_at 3 7 start (drop start s) ≡ decimal.Fault → Fault ≡ coordinate_at limit at (drop at s)
+  pub no_decimal : decimal_at 3 7 start (drop start s) ≡ None → None ≡ coordinate_at limit at (drop at s)
   unfolding coordinate_at
   no_decimal q = rw (rw rest at (no_decimal_read 3 7 start (drop start s) q))
 
-  module _ (m e : ℕ) (q : decimal_at 3 7 start (drop start s) ≡ decimal.Value m e) where
+  module _ (m e : ℕ) (q : decimal_at 3 7 start (drop start s) ≡ Some (m, e)) where
     given : DecimalRead 3 7 start (unsigned (drop at s)) m e
     given = rw rest at (decimal_read 3 7 start (drop start s) m e q)
 
-    pub beyond : limit < m → Fault ≡ coordinate_at limit at (drop at s)
+    pub beyond : limit < m → None ≡ coordinate_at limit at (drop at s)
     unfolding coordinate_at
     beyond h = rw (given.is, lt-leb (scaled 7 (unsigned (drop at s))) limit (rw given.value at h))
 
     pub within_limit :
         m ≤ limit → (minus : Bool) → minus ≡ leads (code "-") (drop at s) → (z : ℤ) → z ≡ signed minus m → mag z < 2_147_483_648
-        → Value (read w32 z) e ≡ coordinate_at limit at (drop at s)
+        → Some (read w32 z, e) ≡ coordinate_at limit at (drop at s)
     unfolding coordinate_at
     within_limit h minus p z v g =
         let x : e ≡ at + (sign_length (drop at s) + decimal_length (unsigned (drop at s))) = omega (arith, given.end) in
@@ -99,22 +88,22 @@ pub record Measured (limit i : ℕ) (l : List ℕ) (z : ℤ) (e : ℕ) : Type 0 
   pub end : e ≡ i + coordinate_length l
 
 module _ (limit i : ℕ) (l : List ℕ) where
-  pub measured : (z : ℤ) (e : ℕ) → coordinate_at limit i l ≡ Value z e → Measured limit i l z e
+  pub measured : (z : ℤ) (e : ℕ) → coordinate_at limit i l ≡ Some (z, e) → Measured limit i l z e
   unfolding coordinate_at
-  measured z e q = let (t, p) = first_arm _ _ _ (is_coordinate limit l) q (fault≢value z e) in record { is = t; value = cc; end = cc }
+  measured z e q = let (t, p) = some_arm _ (is_coordinate limit l) (z, e) q in record { is = t; value = sym (ap (λ r. r.0) p); end = sym (ap (λ r. r.1) p) }
 
-  pub not_measured : coordinate_at limit i l ≡ Fault → is_coordinate limit l ≡ false
+  pub not_measured : coordinate_at limit i l ≡ None → is_coordinate limit l ≡ false
   unfolding coordinate_at
-  not_measured q = second_arm _ _ _ (is_coordinate limit l) q (λ p. fault≢value _ _ (sym p))
+  not_measured q = none_arm _ (is_coordinate limit l) q
 
 -- ---- a coordinate that is the whole text
 
 module _ (limit : ℕ) (l : List ℕ) where
-  pub no_degrees : coordinate_at limit 0 l ≡ Fault → refuses 22 0 ≡ degrees_of limit l
+  pub no_degrees : coordinate_at limit 0 l ≡ None → refuses 22 0 ≡ degrees_of limit l
   unfolding degrees_of
   no_degrees q = rw (not_measured limit 0 l q)
 
-  module _ (z : ℤ) (e : ℕ) (q : coordinate_at limit 0 l ≡ Value z e) where
+  module _ (z : ℤ) (e : ℕ) (q : coordinate_at limit 0 l ≡ Some (z, e)) where
     pub degrees_part : (e ≡ length l → ⊥) → refuses 22 0 ≡ degrees_of limit l
     unfolding degrees_of
     degrees_part n =

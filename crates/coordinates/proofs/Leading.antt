@@ -11,9 +11,9 @@ use Rattle.text.specs.Logic.{by_test}
 use Rattle.coordinates.specs.Decimal.{leads}
 
 module _ (s : List ℕ) (i b : ℕ) where
-  pub leads_at : i < length s → leads b (drop i s) ≡ eqb (get_or s i 0) b
+  pub leads_at : (c : ℕ) → i < length s → c ≡ get_or s i 0 → leads b (drop i s) ≡ eqb c b
   unfolding leads
-  leads_at h = rw (drop-cons s i 0 h)
+  leads_at c h e = rw (drop-cons s i 0 h, e)
 
   pub leads_none : length s ≤ i → leads b (drop i s) ≡ false
   unfolding leads

@@ -1,4 +1,5 @@
 pub mod Differences
+pub mod Arms
 pub mod Leading
 pub mod Tens
 pub mod Runs

@@ -1,10 +1,8 @@
 -- Decimals (document 01, "Is the studio inside"), read from the front of a text.
-use Rattle.std.specs.Prelude.{Bool, false, cond, not, ◌&&◌, ◌||◌, List, [], ◌∷◌, ℕ, ◌+◌, ◌-◌, ◌*◌, ◌^◌, eqb, leb, length, take, drop}
+use Rattle.std.specs.Prelude.{Bool, false, cond, not, ◌&&◌, ◌||◌, List, [], ◌∷◌, Option, Some, None, ℕ, ◌+◌, ◌-◌, ◌*◌, ◌^◌, eqb, leb, length, take, drop}
 use Prim.Native.Char.{code}
 use Rattle.text.specs.Answers.{Answer, gives, refuses}
 use Rattle.text.specs.Bytes.{digits, number}
-use Rattle.coordinates.specs.declared.Decimal.{Decimal}
-use Rattle.coordinates.specs.declared.Decimal.TheVariants.{Value, Fault}
 
 -- the byte b leads the text
 unfoldable pub leads : ℕ → List ℕ → Bool
@@ -41,9 +39,9 @@ is_decimal w f l = leb 1 (digits l) && leb (digits l) w && (not (has_point l) ||
 unfoldable pub scaled : ℕ → List ℕ → ℕ
 scaled f l = number (whole l) * 10 ^ f + number (fraction l) * 10 ^ (f - places l)
 
--- the decimal that leads the text l, which stands at offset i
-unfoldable pub decimal_at : ℕ → ℕ → ℕ → List ℕ → Decimal
-decimal_at w f i l = cond (is_decimal w f l) (Value (scaled f l) (i + decimal_length l)) Fault
+-- the number that the decimal writes that leads the text l, which stands at offset i, and the offset after it
+unfoldable pub decimal_at : ℕ → ℕ → ℕ → List ℕ → Option (ℕ × ℕ)
+decimal_at w f i l = cond (is_decimal w f l) (Some (scaled f l, i + decimal_length l)) None
 
 -- ---- "the radius in km: 1 to 5 digits, optionally a point and 1 to 3 digits, at most 20,000": in metres
 

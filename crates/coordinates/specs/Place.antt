@@ -1,13 +1,9 @@
 -- Latitudes, longitudes and pairs of them (document 01, "The packet" and "Is the studio inside"), in units of 1e-7 degree.
-use Rattle.std.specs.Prelude.{Bool, cond, ◌&&◌, ◌||◌, List, ℕ, ◌+◌, eqb, leb, ℤ, pos, neg_ℤ, length, drop}
+use Rattle.std.specs.Prelude.{Bool, cond, ◌&&◌, ◌||◌, List, Option, Some, None, ℕ, ◌+◌, eqb, leb, ℤ, pos, neg_ℤ, length, drop}
 use Prim.Native.Char.{code}
 use Rattle.std.specs.Int.Signed.{le_z}
 use Rattle.text.specs.Answers.{Answer, gives, refuses}
 use Rattle.coordinates.specs.declared.Place.{Place}
-use Rattle.coordinates.specs.declared.Coordinate.{Coordinate}
-use Rattle.coordinates.specs.declared.Coordinate.TheVariants.{Value, Fault}
-use Rattle.coordinates.specs.declared.LeadingPair.{LeadingPair}
-use Rattle.coordinates.specs.declared.LeadingPair.TheVariants as leading
 use Rattle.coordinates.specs.Decimal.{leads, is_decimal, scaled, decimal_length}
 
 -- ---- "within 900,000,000 and 1,800,000,000 either way"
@@ -41,9 +37,9 @@ coordinate_value l = cond (leads (code "-") l) (neg_ℤ (pos (scaled 7 (unsigned
 abbrev pub coordinate_length : List ℕ → ℕ
 coordinate_length l = sign_length l + decimal_length (unsigned l)
 
--- the coordinate that leads the text l, which stands at offset i
-unfoldable pub coordinate_at : ℕ → ℕ → List ℕ → Coordinate
-coordinate_at limit i l = cond (is_coordinate limit l) (Value (coordinate_value l) (i + coordinate_length l)) Fault
+-- the coordinate that leads the text l, which stands at offset i, and the offset after it
+unfoldable pub coordinate_at : ℕ → ℕ → List ℕ → Option (ℤ × ℕ)
+coordinate_at limit i l = cond (is_coordinate limit l) (Some (coordinate_value l, i + coordinate_length l)) None
 
 -- the coordinate that a whole text writes
 unfoldable pub degrees_of : ℕ → List ℕ → Answer ℤ
@@ -63,9 +59,9 @@ pair_value l = record { lat = coordinate_value l; lon = coordinate_value (after_
 abbrev pub pair_length : List ℕ → ℕ
 pair_length l = coordinate_length l + 1 + coordinate_length (after_comma l)
 
--- the pair that leads the text l, which stands at offset i
-unfoldable pub pair_at : ℕ → List ℕ → LeadingPair
-pair_at i l = cond (is_pair l) (leading.At (pair_value l) (i + pair_length l)) leading.Fault
+-- the pair that leads the text l, which stands at offset i, and the offset after it
+unfoldable pub pair_at : ℕ → List ℕ → Option (Place × ℕ)
+pair_at i l = cond (is_pair l) (Some (pair_value l, i + pair_length l)) None
 
 -- the pair that a whole text writes
 unfoldable pub pair_of : List ℕ → Answer Place

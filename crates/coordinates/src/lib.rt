@@ -18,183 +18,102 @@ const LONGITUDE_LIMIT: u64 = 1_800_000_000;
 const RADIUS_LIMIT: u64 = 20_000_000;
 
 // A place on the grid of latitude and longitude, in units of 1e-7 degree; south and west are negative.
-#[derive(Clone, Copy)]
+#[derive(Clone, Copy, Debug, PartialEq, Eq)]
 pub struct Place {
     pub lat: i32,
     pub lon: i32,
 }
 
-// What leads a text, and where it ends: a run of digits, a decimal, a coordinate, a pair. A fault there is part of a text that is refused with 22.
-
-// The number that a run of digits writes and the offset after it, or that it has too many digits.
-#[derive(Clone, Copy)]
-pub enum Run {
-    Value(u64, usize),
-    TooLong,
-}
-
-// A number that a decimal writes and the offset after it, or that no such decimal stands there.
-#[derive(Clone, Copy)]
-pub enum Decimal {
-    Value(u64, usize),
-    Fault,
-}
-
-// A signed coordinate and the offset after it, or that none stands there.
-#[derive(Clone, Copy)]
-pub enum Coordinate {
-    Value(i32, usize),
-    Fault,
-}
-
-// A place that leads a text and the offset after it, or that none does.
-#[derive(Clone, Copy)]
-pub enum LeadingPair {
-    At(Place, usize),
-    Fault,
-}
-
-// A latitude or a longitude that a whole text writes.
-#[derive(Clone, Copy)]
-pub enum Degrees {
-    Units(i32),
-    Fault,
-}
-
-// A place that a whole text writes.
-#[derive(Clone, Copy)]
-pub enum Pair {
-    At(Place),
-    Fault,
-}
-
-// A radius that a whole text writes.
-#[derive(Clone, Copy)]
-pub enum Radius {
-    Metres(u32),
-    Fault,
-}
-
-// Whether a shape holds a place; or that there is no such shape.
-#[derive(Clone, Copy)]
-pub enum Inclusion {
-    Inside,
-    Outside,
-    Fault,
-}
-
 fn is_latitude(lat: i32) -> bool
     ensures { result ≡ within latitude_limit lat }
 {
-    (-900_000_000 <= lat) & (lat <= 900_000_000)
+    (-900_000_000..=900_000_000).contains(&lat)
 }
 
 fn is_longitude(lon: i32) -> bool
     ensures { result ≡ within longitude_limit lon }
 {
-    (-1_800_000_000 <= lon) & (lon <= 1_800_000_000)
+    (-1_800_000_000..=1_800_000_000).contains(&lon)
 }
 
 // Whether a place is within range: 90 degrees of latitude and 180 of longitude, either way.
 pub fn in_range(p: Place) -> bool
     ensures { result ≡ in_range p }
 {
-    is_latitude(p.lat) & is_longitude(p.lon)
+    is_latitude(p.lat) && is_longitude(p.lon)
 }
 
 // The difference of two coordinates, with its sign.
 pub fn difference(a: i32, b: i32) -> i64
     ensures { result ≡ a -ℤ b }
 {
-    (a as i64) - (b as i64)
+    i64::from(a) - i64::from(b)
 }
 
 // The difference of two coordinates, without its sign.
 pub fn distance(a: i32, b: i32) -> u64
     ensures { result ≡ nat_abs (a -ℤ b) }
 {
-    let d = difference(a, b);
-    if d < 0 {
-        return (0 - d) as u64;
-    }
-    d as u64
+    difference(a, b).unsigned_abs()
 }
 
 // The latitude that a text writes.
-pub fn read_latitude(text: &[u8]) -> Degrees
+pub fn read_latitude(text: &[u8]) -> Option<i32>
     ensures { degrees_answer result ≡ degrees_of latitude_limit text.now }
 {
     whole_text(text, LATITUDE_LIMIT)
 }
 
 // The longitude that a text writes.
-pub fn read_longitude(text: &[u8]) -> Degrees
+pub fn read_longitude(text: &[u8]) -> Option<i32>
     ensures { degrees_answer result ≡ degrees_of longitude_limit text.now }
 {
     whole_text(text, LONGITUDE_LIMIT)
 }
 
-// The place that a text writes: latitude, comma, longitude.
-pub fn read_pair(text: &[u8]) -> Pair
-    ensures { pair_answer result ≡ pair_of text.now }
-{
-    let pair = leading_pair(text, 0);
-    let LeadingPair::At(place, next) = pair else {
-        return Pair::Fault;
-    };
-    if next != text.len() {
-        return Pair::Fault;
-    }
-    Pair::At(place)
-}
-
-// The place that stands from `at` on: latitude, comma, longitude. What stands after it isn't looked at.
-pub fn leading_pair(text: &[u8], at: usize) -> LeadingPair
-    ensures { result ≡ pair_at at (drop at text.now) }
-{
-    let y = scan::coordinate_at(text, at, LATITUDE_LIMIT);
-    let Coordinate::Value(lat, comma) = y else {
-        return LeadingPair::Fault;
-    };
-    if !scan::leads(text, comma, b',') {
-        return LeadingPair::Fault;
-    }
-    let x = scan::coordinate_at(text, comma + 1, LONGITUDE_LIMIT);
-    match x {
-        Coordinate::Value(lon, end) => LeadingPair::At(Place { lat, lon }, end),
-        Coordinate::Fault => LeadingPair::Fault,
-    }
-}
-
-// The radius that a text writes in kilometres.
-pub fn read_radius(text: &[u8]) -> Radius
-    ensures { radius_answer result ≡ radius_of text.now }
-{
-    let d = scan::decimal_at(text, 0, 5, 3);
-    let Decimal::Value(metres, after) = d else {
-        return Radius::Fault;
-    };
-    if after != text.len() {
-        return Radius::Fault;
-    }
-    if RADIUS_LIMIT < metres {
-        return Radius::Fault;
-    }
-    Radius::Metres(metres as u32)
-}
-
-// The coordinate that a text writes.
+// The coordinate that a whole text writes.
 #[tactic(auto, using(crate::proofs::Coordinates::no_degrees, crate::proofs::Coordinates::degrees_part, crate::proofs::Coordinates::degrees_whole))]
-fn whole_text(text: &[u8], limit: u64) -> Degrees
+fn whole_text(text: &[u8], limit: u64) -> Option<i32>
     requires { limit ≤ 1_800_000_000 }
     ensures { degrees_answer result ≡ degrees_of limit text.now }
 {
-    let c = scan::coordinate_at(text, 0, limit);
-    let Coordinate::Value(units, end) = c else {
-        return Degrees::Fault;
-    };
+    let (units, end) = scan::coordinate_at(text, 0, limit)?;
     if end != text.len() {
-        return Degrees::Fault;
+        return None;
     }
-    Degrees::Units(units)
+    Some(units)
+}
+
+// The place that a whole text writes: latitude, comma, longitude.
+pub fn read_pair(text: &[u8]) -> Option<Place>
+    ensures { pair_answer result ≡ pair_of text.now }
+{
+    let (place, next) = leading_pair(text, 0)?;
+    if next != text.len() {
+        return None;
+    }
+    Some(place)
+}
+
+// The place that stands from `at` on, latitude, comma, longitude, and the offset after it. What stands there isn't looked at.
+pub fn leading_pair(text: &[u8], at: usize) -> Option<(Place, usize)>
+    ensures { result ≡ pair_at at (drop at text.now) }
+{
+    let (lat, comma) = scan::coordinate_at(text, at, LATITUDE_LIMIT)?;
+    if !scan::leads(text, comma, b',') {
+        return None;
+    }
+    let (lon, end) = scan::coordinate_at(text, comma + 1, LONGITUDE_LIMIT)?;
+    Some((Place { lat, lon }, end))
+}
+
+// The radius that a whole text writes in kilometres, in metres.
+pub fn read_radius(text: &[u8]) -> Option<u32>
+    ensures { radius_answer result ≡ radius_of text.now }
+{
+    let (metres, after) = scan::decimal_at(text, 0, 5, 3)?;
+    if after != text.len() || RADIUS_LIMIT < metres {
+        return None;
+    }
+    Some(metres as u32)
 }

@@ -9,8 +9,7 @@ use Rattle.text.specs.Answers.{Answer, gives, refuses}
 use Rattle.document.specs.declared.Mode.{Mode}
 use Rattle.document.specs.declared.Event.{Event}
 use Rattle.document.specs.declared.Event.TheVariants.{Silent}
-use Rattle.document.specs.declared.Step.{Step}
-use Rattle.document.specs.declared.Step.TheVariants.{Next, Done, Refused}
+use Rattle.document.specs.Steps.{Step, Next, Done, Refused}
 use Rattle.document.specs.Elements.{Element, given}
 use Rattle.document.specs.Constructs.{step_of}
 use Rattle.document.specs.Documents.{elements_of, begin, first_step, after, run, read_from, document_of}

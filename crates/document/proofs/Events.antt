@@ -1,27 +1,27 @@
 -- What holds of every step: where it goes on, what its event says of the schema and of a text, or where it refuses. One walk along a step's cases.
 use mathlib.Core.Path.{◌≡◌, refl, sym, ap, subst}
-use mathlib.Core.Bool.{Bool, true, false, cond, not, ◌||◌}
+use mathlib.Core.Bool.{Bool, true, false, cond, ◌||◌}
 use mathlib.Core.List.{List, []}
 use Prim.Native.Nat.{ℕ, zero, suc, ◌+◌, ◌≤◌, ◌<◌}
 use Prim.Native.Char.{code}
 use native.Mathlib.Omega.{arith}
-use borrow.Author.Tests.{leb-true, leb-false, eqb-true, eqb-false, not-false}
+use borrow.Author.Tests.{leb-true, leb-false, eqb-true, eqb-false}
 use lib.Dec.{eqb, leb}
 use lib.ListN.{length, get_or, drop}
+use Rattle.std.specs.Prelude.{Option, Some, None, is_some, is_none, Result, Ok, Err}
 use Rattle.text.specs.Ascii.{ascii}
 use Rattle.text.specs.Logic.{cond_cases, and_left, or_none, eql}
 use Rattle.text.specs.Parts.{starts_with, part}
 use Rattle.text.proofs.Parts.{part_none}
-use Rattle.xml_tags.specs.declared.TagEnd.{TagEnd}
-use Rattle.xml_tags.specs.declared.TagEnd.TheVariants.{At, Unended}
 use Rattle.xml_tags.specs.declared.Tail.{Tail}
 use Rattle.xml_tags.specs.declared.Tail.TheVariants as tail
-use Rattle.xml_tags.specs.declared.NameSpace.{NameSpace}
-use Rattle.xml_tags.specs.declared.NameSpace.TheVariants as space
-use Rattle.xml.specs.declared.Content.{Content}
-use Rattle.xml.specs.declared.Content.TheVariants as content
-use Rattle.xml.specs.declared.Comment.{Comment}
-use Rattle.xml.specs.declared.Comment.TheVariants as comment
+use Rattle.xml_tags.specs.declared.Binding.{Binding}
+use Rattle.xml_tags.specs.declared.NameSpaceError.{NameSpaceError}
+use Rattle.xml_tags.specs.declared.NameSpaceError.TheVariants as space
+use Rattle.xml.specs.declared.ContentError.{ContentError}
+use Rattle.xml.specs.declared.ContentError.TheVariants as content
+use Rattle.xml.specs.declared.CommentError.{CommentError}
+use Rattle.xml.specs.declared.CommentError.TheVariants as comment
 use Rattle.xml_tags.specs.Attributes.{name_space}
 use Rattle.xml.specs.Comments as comments
 use Rattle.xml_tags.specs.Tags as tags
@@ -34,10 +34,9 @@ use Rattle.rules.specs.Texts.{text_rule}
 use Rattle.document.specs.declared.Mode.{Mode}
 use Rattle.document.specs.declared.Event.{Event}
 use Rattle.document.specs.declared.Event.TheVariants.{Silent, Opened, Text, Closed}
-use Rattle.document.specs.declared.Step.{Step}
-use Rattle.document.specs.declared.Step.TheVariants.{Next, Done, Refused}
+use Rattle.document.specs.Steps.{Step, Next, Done, Refused}
 use Rattle.document.specs.Elements.{starts, total}
-use Rattle.document.specs.Tags.{moved, max_infos, after_prefix, name_in, ruled, text_step, enter_step, is_misplaced, open_step, empty_step, other_step, bound_step, alert_step, is_alert, start_step, close_step, is_right_end, end_step, ended_step, tag_end_step, tag_step}
+use Rattle.document.specs.Tags.{moved, max_infos, after_prefix, name_in, ruled, text_step, enter_step, is_misplaced, open_step, empty_step, other_step, bound_step, alert_step, is_alert, start_step, close_step, is_right_end, end_step, name_at, ended_step, tag_end_step, tag_step}
 use Rattle.document.specs.Constructs.{comment_step, construct_step, after_space, step_of}
 use Rattle.document.specs.Documents.{elements_of}
 use Rattle.document.proofs.Numbers.{IsNumber, rule_number}
@@ -89,14 +88,14 @@ SoundStep l m (Refused n p) = Refusal l n p
 -- an element that is not misplaced
 pub record Placed (m : Mode) (c : ℕ) : Type 0 where
   pub known : c ≡ 0 → ⊥
-  pub outside : eqb m.leaf 0 ≡ true
+  pub outside : is_some m.leaf ≡ false
   pub follows : next_of m.state c ≡ 0 → ⊥
 
 pub placed : (m : Mode) (c : ℕ) → is_misplaced m c ≡ false → Placed m c
 placed m c e =
-    let p = or_none (eqb c 0 || not (eqb m.leaf 0)) (eqb (next_of m.state c) 0) e in
-    let q = or_none (eqb c 0) (not (eqb m.leaf 0)) p.0 in
-    record { known = eqb-false c 0 q.0; outside = not-false (eqb m.leaf 0) q.1; follows = eqb-false (next_of m.state c) 0 p.1 }
+    let p = or_none (eqb c 0 || is_some m.leaf) (eqb (next_of m.state c) 0) e in
+    let q = or_none (eqb c 0) (is_some m.leaf) p.0 in
+    record { known = eqb-false c 0 q.0; outside = q.1; follows = eqb-false (next_of m.state c) 0 p.1 }
 
 module _ (l : List ℕ) (m : Mode) where
   cases : (t : Bool) (x y : Step) → (t ≡ true → SoundStep l m x) → (t ≡ false → SoundStep l m y) → SoundStep l m (cond t x y)
@@ -104,14 +103,14 @@ module _ (l : List ℕ) (m : Mode) where
 
   -- on to another offset, with the infos as they are
   on :
-      (next state leaf : ℕ) (e : Event) → m.at < next → next ≤ length l → state ≡ state_after m.state e
+      (next state : ℕ) (leaf : Option ℕ) (e : Event) → m.at < next → next ≤ length l → state ≡ state_after m.state e
       → total (elements_of l e) ≡ 0 → SoundEvent l m.state e → Onward l m (moved m next state leaf) e
   on next state leaf e g k r n t =
       record { later = g; within = k; follows = r; counts = omega (arith, n); limited = λ f. f; event = t }
 
 module _ (l : List ℕ) (m : Mode) (inside : m.at < length l) where
   ruled_sound :
-      (leaf c from until number : ℕ) → m.at < from → class.last_container < c → number ≡ text_rule c (part l from until)
+      (leaf : Option ℕ) (c from until number : ℕ) → m.at < from → class.last_container < c → number ≡ text_rule c (part l from until)
       → from ≤ until → until ≤ length l → ((i : ℕ) → from ≤ i → i < until → texts.is_fault (drop i l) ≡ false)
       → SoundStep l m (ruled m (next_of m.state c) leaf c from until number)
   unfolding starts
@@ -121,13 +120,13 @@ module _ (l : List ℕ) (m : Mode) (inside : m.at < length l) where
   ruled_sound leaf c from until (suc n) g b r o k f = (omega arith, rule_number c n (part l from until) r)
 
   text_sound :
-      (c from : ℕ) → m.at < from → class.last_container < c → (r : Content) → texts.content l from ≡ r
+      (c from : ℕ) → m.at < from → class.last_container < c → (r : Result ℕ ContentError) → texts.content l from ≡ r
       → SoundStep l m (text_step l m (next_of m.state c) c from r)
-  text_sound c from g b (content.Clean e) p =
+  text_sound c from g b (Ok e) p =
       let k = clean_within l from e p in
-      ruled_sound c c from e (text_rule c (part l from e)) g b refl k.0 (omega arith) (clean_at l from e p)
-  text_sound c from g b (content.Fault q) p = let k = fault_within l from q p in (omega arith, tt)
-  text_sound c from g b content.Unended p = (omega arith, tt)
+      ruled_sound (Some c) c from e (text_rule c (part l from e)) g b refl k.0 (omega arith) (clean_at l from e p)
+  text_sound c from g b (Err (content.Fault q)) p = let k = fault_within l from q p in (omega arith, tt)
+  text_sound c from g b (Err content.Unended) p = (omega arith, tt)
 
   enter_sound : (c next : ℕ) → m.at < next → next ≤ length l → (0 < c) × (c ≤ class.last_container) → SoundStep l m (enter_step m (next_of m.state c) c next)
   unfolding starts
@@ -158,78 +157,80 @@ module _ (l : List ℕ) (m : Mode) (inside : m.at < length l) where
   unfolding empty_step
   empty_sound c next g k =
       cases l m (is_misplaced m c || leb c class.last_container) _ _ (λ e. (omega arith, tt)) λ e.
-      ruled_sound 0 c next next (text_rule c []) g (leb-false c class.last_container (or_none (is_misplaced m c) (leb c class.last_container) e).1)
+      ruled_sound None c next next (text_rule c []) g (leb-false c class.last_container (or_none (is_misplaced m c) (leb c class.last_container) e).1)
       (ap (text_rule c) (part_none l next next (omega arith))) (omega arith) k
       (λ i a b. absurd (omega arith))
 
-  other_sound : (n : ℕ) → m.at < n → (t : Tail) → tags.tail l n ≡ t → SoundStep l m (other_step l m n t)
-  other_sound n g (tail.Open next) p =
+  other_sound : (name : List ℕ) (n : ℕ) → m.at < n → (t : Option Tail) → tags.tail l n ≡ t → SoundStep l m (other_step l m name t)
+  other_sound name n g (Some (tail.Open next)) p =
       let k = tail_open l n next p in
-      open_sound (class.class_of (name_in l m (m.at + 1) n)) next (omega arith) k.1
-  other_sound n g (tail.Empty next) p =
+      open_sound (class.class_of (name_in l m name)) next (omega arith) k.1
+  other_sound name n g (Some (tail.Empty next)) p =
       let k = tail_empty l n next p in
-      empty_sound (class.class_of (name_in l m (m.at + 1) n)) next (omega arith) k.1
-  other_sound n g tail.Fault p = (omega arith, tt)
+      empty_sound (class.class_of (name_in l m name)) next (omega arith) k.1
+  other_sound name n g None p = (omega arith, tt)
 
-  bound_sound : (n p u next : ℕ) → m.at < next → next ≤ length l → m.state ≡ before → SoundStep l m (bound_step l m n p u next)
+  bound_sound : (name : List ℕ) (b : Binding) → m.at < b.next → b.next ≤ length l → m.state ≡ before → SoundStep l m (bound_step l m name b)
   unfolding bound_step starts
-  bound_sound n p u next g k b =
-      cases l m (eql (after_prefix (part l p u) (part l (m.at + 1) n)) (class.name_of class.alert)) _ _
+  bound_sound name b g k q =
+      cases l m (eql (after_prefix (part l b.from b.until) name) (class.name_of class.alert)) _ _
       (λ e.
       record {
         later = g;
         within = k;
-        follows = rw b;
+        follows = rw q;
         counts = omega arith;
         limited = λ f. f;
         event = (omega arith, omega arith);
       })
       (λ e. (omega arith, tt))
 
-  alert_sound : (n : ℕ) → m.at < n → m.state ≡ before → (r : NameSpace) → name_space l n ≡ r → SoundStep l m (alert_step l m n r)
-  alert_sound n g b (space.Bound p u next) q =
-      let k = name_space_within l n p u next q in
-      bound_sound n p u next (omega arith) k.1 b
-  alert_sound n g b space.Empty q = (omega arith, tt)
-  alert_sound n g b space.Fault q = (omega arith, tt)
+  alert_sound :
+      (name : List ℕ) (n : ℕ) → m.at < n → m.state ≡ before → (r : Result Binding NameSpaceError) → name_space l n ≡ r
+      → SoundStep l m (alert_step l m name r)
+  alert_sound name n g q (Ok b) e =
+      let k = name_space_within l n b e in
+      bound_sound name b (omega arith) k.1 q
+  alert_sound name n g q (Err space.Empty) e = (omega arith, tt)
+  alert_sound name n g q (Err space.Fault) e = (omega arith, tt)
 
-  start_sound : (n : ℕ) → m.at < n → SoundStep l m (start_step l m n)
+  start_sound : (name : List ℕ) (n : ℕ) → m.at < n → SoundStep l m (start_step l m name n)
   unfolding start_step is_alert
-  start_sound n g =
-      cases l m (eqb n (m.at + 1) || eqb m.state over) _ _ (λ e. (omega arith, tt)) λ e.
-      cases l m (is_alert l m n) _ _
-      (λ f. alert_sound n g (eqb-true m.state before (and_left (eqb m.state before) _ f)) (name_space l n) refl)
-      (λ f. other_sound n g (tags.tail l n) refl)
+  start_sound name n g =
+      cases l m (eqb (length name) 0 || eqb m.state over) _ _ (λ e. (omega arith, tt)) λ e.
+      cases l m (is_alert m name) _ _
+      (λ f. alert_sound name n g (eqb-true m.state before (and_left (eqb m.state before) _ f)) (name_space l n) refl)
+      (λ f. other_sound name n g (tags.tail l n) refl)
 
   close_sound : (next : ℕ) → m.at < next → next ≤ length l → SoundStep l m (close_step m next)
   unfolding close_step starts
   close_sound next g k =
-      cases l m (not (eqb m.leaf 0)) _ _ (λ e. on l m next m.state 0 Silent g k refl refl tt) λ e.
+      cases l m (is_some m.leaf) _ _ (λ e. on l m next m.state None Silent g k refl refl tt) λ e.
       cases l m (eqb (next_of m.state 0) 0) _ _ (λ f. (omega arith, tt))
-      (λ f. on l m next (next_of m.state 0) 0 (Closed (container_of m.state)) g k refl refl refl)
+      (λ f. on l m next (next_of m.state 0) None (Closed (container_of m.state)) g k refl refl refl)
 
-  end_sound : (n : ℕ) → m.at < n → (t : Tail) → tags.tail l n ≡ t → SoundStep l m (end_step l m n t)
-  end_sound n g (tail.Open next) p =
+  end_sound : (name : List ℕ) (n : ℕ) → m.at < n → (t : Option Tail) → tags.tail l n ≡ t → SoundStep l m (end_step l m name t)
+  end_sound name n g (Some (tail.Open next)) p =
       let k = tail_open l n next p in
-      cases l m (is_right_end l m n) _ _ (λ e. close_sound next (omega arith) k.1) (λ e. (omega arith, tt))
-  end_sound n g (tail.Empty next) p = (omega arith, tt)
-  end_sound n g tail.Fault p = (omega arith, tt)
+      cases l m (is_right_end l m name) _ _ (λ e. close_sound next (omega arith) k.1) (λ e. (omega arith, tt))
+  end_sound name n g (Some (tail.Empty next)) p = (omega arith, tt)
+  end_sound name n g None p = (omega arith, tt)
 
-  tag_end_sound : (f : TagEnd) → SoundStep l m (tag_end_step l m f)
+  tag_end_sound : (f : Option ℕ) → SoundStep l m (tag_end_step l m f)
   unfolding ended_step
-  tag_end_sound (At e) =
+  tag_end_sound (Some e) =
       cases l m (starts_with (ascii "</") (drop m.at l)) _ _
-      (λ t. let n = tags.name_end l (m.at + 2) in end_sound n (omega arith) (tags.tail l n) refl)
-      (λ t. start_sound (tags.name_end l (m.at + 1)) (omega arith))
-  tag_end_sound Unended = (omega arith, tt)
+      (λ t. let n = tags.name_end l (m.at + 2) in end_sound (name_at l (m.at + 2)) n (omega arith) (tags.tail l n) refl)
+      (λ t. start_sound (name_at l (m.at + 1)) (tags.name_end l (m.at + 1)) (omega arith))
+  tag_end_sound None = (omega arith, tt)
 
-  comment_sound : (c : Comment) → comments.comment l (m.at + 4) ≡ c → SoundStep l m (comment_step l m c)
+  comment_sound : (c : Result ℕ CommentError) → comments.comment l (m.at + 4) ≡ c → SoundStep l m (comment_step l m c)
   unfolding starts
-  comment_sound (comment.After next) p =
+  comment_sound (Ok next) p =
       let k = comment_within l (m.at + 4) next p in
-      cases l m (eqb m.leaf 0) _ _ (λ e. on l m next m.state 0 Silent (omega arith) k.1 refl refl tt) (λ e. (omega arith, tt))
-  comment_sound comment.Fault p = (omega arith, tt)
-  comment_sound comment.Unended p = (omega arith, tt)
+      cases l m (is_none m.leaf) _ _ (λ e. on l m next m.state None Silent (omega arith) k.1 refl refl tt) (λ e. (omega arith, tt))
+  comment_sound (Err comment.Fault) p = (omega arith, tt)
+  comment_sound (Err comment.Unended) p = (omega arith, tt)
 
 construct_sound : (l : List ℕ) (m : Mode) → SoundStep l m (construct_step l m)
 unfolding construct_step tag_step
@@ -240,7 +241,7 @@ construct_sound l m =
     let h = leb-false (length l) m.at t in
     cases l m (starts_with (ascii "<!--") (drop m.at l)) _ _ (λ f. comment_sound l m h (comments.comment l (m.at + 4)) refl) λ f.
     cases l m (eqb (get_or l m.at 0) (code "<")) _ _
-    (λ g. tag_end_sound l m h (tags.tag_end 0 (m.at + 1) (drop (m.at + 1) l)))
+    (λ g. tag_end_sound l m h (tags.tag_end None (m.at + 1) (drop (m.at + 1) l)))
     (λ g. (omega arith, tt))
 
 -- so is a construct after white space

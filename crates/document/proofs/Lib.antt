@@ -1,7 +1,7 @@
 pub mod Numbers
 pub mod Events
 pub mod Runs
-pub mod Steps
+pub mod EndTags
 pub mod Tested
 pub mod Loops
 pub mod Accepted
@@ -11,3 +11,4 @@ pub mod Nesting
 pub mod OtherStates
 pub mod Exact
 pub mod Prefixes
+pub mod Ruled

@@ -6,17 +6,16 @@ use native.Mathlib.Omega.{arith}
 use borrow.Author.Tests.{ltb-false}
 use lib.Dec.{ltb}
 use lib.ListN.{length}
+use Rattle.std.specs.Prelude.{Option, Some, Result, Ok, Err}
 use Rattle.text.specs.Parts.{part}
 use Rattle.text.specs.Answers.{Answer, gives, refuses, giving}
 use Rattle.text.specs.Logic.{cond_cases}
-use Rattle.xml.specs.declared.Prolog.{Prolog}
-use Rattle.xml.specs.declared.Prolog.TheVariants as prolog
+use Rattle.xml.specs.declared.PrologError.{PrologError}
 use Rattle.xml.specs.Opening as opening
 use Rattle.document.specs.declared.Mode.{Mode}
 use Rattle.document.specs.declared.Event.{Event}
 use Rattle.document.specs.declared.Event.TheVariants.{Silent, Opened, Text, Closed}
-use Rattle.document.specs.declared.Step.{Step}
-use Rattle.document.specs.declared.Step.TheVariants.{Next, Done, Refused}
+use Rattle.document.specs.Steps.{Step, Next, Done, Refused, step_answer}
 use Rattle.document.specs.Elements.{Element, opened, text, closed, given, starts, total, fold, counted, gather, answer}
 use Rattle.document.specs.Constructs.{step_of}
 use Rattle.document.specs.Documents.{elements_of, max_length, prolog_step, first_step, after, read_from, document_of, check_of}
@@ -27,6 +26,10 @@ pub starts_append : (c : ℕ) (xs ys : List Element) → starts c (xs ++ ys) ≡
 unfolding starts
 starts_append c [] ys = omega arith
 starts_append c (x ∷ xs) ys = omega (arith, starts_append c xs ys)
+
+-- a step that was taken
+pub took : {step : Option (Mode × Event)} {m : Mode} {e : Event} → step ≡ Some (m, e) → step_answer (Ok step) ≡ Next m e
+took p = ap (λ (x : Option (Mode × Event)). step_answer (Ok x)) p
 
 -- the bytes that are left after a step, and one: a loop's measure
 abbrev pub left : List ℕ → Step → ℕ
@@ -49,9 +52,9 @@ first_left l =
     cond_cases (λ (r : Step). left l r ≤ suc max_length) (ltb max_length (length l)) _ _ (λ e. omega arith)
     (λ e. go (opening.prolog l) (ltb-false max_length (length l) e))
   where
-    go : (r : Prolog) → length l ≤ max_length → left l (prolog_step r) ≤ suc max_length
-    go (prolog.After at) h = omega (arith, h)
-    go (prolog.Fault p) h = omega arith
+    go : (r : Result ℕ PrologError) → length l ≤ max_length → left l (prolog_step r) ≤ suc max_length
+    go (Ok at) h = omega (arith, h)
+    go (Err e) h = omega arith
 
 -- the mode after a step counts the infos, of which k have started before the step's event
 abbrev Counts : List ℕ → ℕ → Step → Type 0

@@ -8,19 +8,19 @@ use Prim.Native.Char.{code}
 use borrow.Author.Tests.{eqb-true, eqb-false, ne_eqb}
 use lib.Dec.{eqb, leb}
 use lib.ListN.{length, get_or, drop}
+use Rattle.std.specs.Prelude.{Option, Some, None, is_none, Result, Ok, Err}
 use Rattle.text.specs.Ascii.{ascii}
 use Rattle.text.specs.Logic.{by_test, cond_cases, and_left, eql, or_none}
 use Rattle.text.specs.Parts.{starts_with, part}
-use Rattle.xml_tags.specs.declared.TagEnd.{TagEnd}
-use Rattle.xml_tags.specs.declared.TagEnd.TheVariants.{At, Unended}
 use Rattle.xml_tags.specs.declared.Tail.{Tail}
 use Rattle.xml_tags.specs.declared.Tail.TheVariants as tail
-use Rattle.xml_tags.specs.declared.NameSpace.{NameSpace}
-use Rattle.xml_tags.specs.declared.NameSpace.TheVariants as space
-use Rattle.xml.specs.declared.Content.{Content}
-use Rattle.xml.specs.declared.Content.TheVariants as content
-use Rattle.xml.specs.declared.Comment.{Comment}
-use Rattle.xml.specs.declared.Comment.TheVariants as comment
+use Rattle.xml_tags.specs.declared.Binding.{Binding}
+use Rattle.xml_tags.specs.declared.NameSpaceError.{NameSpaceError}
+use Rattle.xml_tags.specs.declared.NameSpaceError.TheVariants as space
+use Rattle.xml.specs.declared.ContentError.{ContentError}
+use Rattle.xml.specs.declared.ContentError.TheVariants as content
+use Rattle.xml.specs.declared.CommentError.{CommentError}
+use Rattle.xml.specs.declared.CommentError.TheVariants as comment
 use Rattle.xml_tags.specs.Attributes.{name_space}
 use Rattle.xml.specs.Comments as comments
 use Rattle.xml_tags.specs.Tags as tags
@@ -32,9 +32,8 @@ use Rattle.rules.specs.Texts.{text_rule}
 use Rattle.document.specs.declared.Mode.{Mode}
 use Rattle.document.specs.declared.Event.{Event}
 use Rattle.document.specs.declared.Event.TheVariants.{Silent, Opened, Text, Closed}
-use Rattle.document.specs.declared.Step.{Step}
-use Rattle.document.specs.declared.Step.TheVariants.{Next, Done, Refused}
-use Rattle.document.specs.Tags.{moved, max_infos, after_prefix, name_in, ruled, text_step, enter_step, is_misplaced, open_step, empty_step, other_step, bound_step, alert_step, is_alert, start_step, close_step, is_right_end, end_step, ended_step, tag_end_step, tag_step}
+use Rattle.document.specs.Steps.{Step, Next, Done, Refused}
+use Rattle.document.specs.Tags.{moved, max_infos, after_prefix, name_in, ruled, text_step, enter_step, is_misplaced, open_step, empty_step, other_step, bound_step, alert_step, is_alert, start_step, close_step, is_right_end, end_step, name_at, ended_step, tag_end_step, tag_step}
 use Rattle.document.specs.Constructs.{comment_step, stop_step, construct_step, after_space, step_of}
 use Rattle.document.specs.Following.{in_state}
 use Rattle.document.proofs.Events.{state_after, Placed, placed, onward}
@@ -73,17 +72,17 @@ module _ (l : List ℕ) (m : Mode) (s : ℕ) (d : s ≡ m.state → ⊥) where
   AgreeInside (Refused n p) r = Prim.Unit
 
   ruled_agrees :
-      (leaf c from until number : ℕ)
+      (leaf : Option ℕ) (c from until number : ℕ)
       → AgreeIn c (ruled m (next_of m.state c) leaf c from until number) (ruled (in_state s m) (next_of s c) leaf c from until number)
   ruled_agrees leaf c from until zero = (λ n. n, refl)
   ruled_agrees leaf c from until (suc n) = tt
 
   text_agrees :
-      (c from : ℕ) (r : Content)
+      (c from : ℕ) (r : Result ℕ ContentError)
       → AgreeIn c (text_step l m (next_of m.state c) c from r) (text_step l (in_state s m) (next_of s c) c from r)
-  text_agrees c from (content.Clean e) = ruled_agrees c c from e (text_rule c (part l from e))
-  text_agrees c from (content.Fault p) = tt
-  text_agrees c from content.Unended = tt
+  text_agrees c from (Ok e) = ruled_agrees (Some c) c from e (text_rule c (part l from e))
+  text_agrees c from (Err (content.Fault p)) = tt
+  text_agrees c from (Err content.Unended) = tt
 
   enter_agrees : (c next : ℕ) → AgreeIn c (enter_step m (next_of m.state c) c next) (enter_step (in_state s m) (next_of s c) c next)
   enter_agrees c next =
@@ -134,85 +133,89 @@ module _ (l : List ℕ) (m : Mode) (s : ℕ) (d : s ≡ m.state → ⊥) where
       let o = or_none (is_misplaced m c) (leb c class.last_container) e in
       let p = placed m c o.0 in
       behind c p (is_misplaced (in_state s m) c || leb c class.last_container) (λ n. rw (not_misplaced c p n) o.1)
-      (ruled m (next_of m.state c) 0 c next next (text_rule c [])) (ruled (in_state s m) (next_of s c) 0 c next next (text_rule c []))
+      (ruled m (next_of m.state c) None c next next (text_rule c [])) (ruled (in_state s m) (next_of s c) None c next next (text_rule c []))
       (Refused 16 m.at)
-      (ruled_agrees 0 c next next (text_rule c [])))
+      (ruled_agrees None c next next (text_rule c [])))
 
-  other_agrees : (n : ℕ) (t : Tail) → AgreeInside (other_step l m n t) (other_step l (in_state s m) n t)
-  other_agrees n (tail.Open next) = open_agrees (class.class_of (name_in l m (m.at + 1) n)) next
-  other_agrees n (tail.Empty next) = empty_agrees (class.class_of (name_in l m (m.at + 1) n)) next
-  other_agrees n tail.Fault = tt
+  other_agrees : (name : List ℕ) (t : Option Tail) → AgreeInside (other_step l m name t) (other_step l (in_state s m) name t)
+  other_agrees name (Some (tail.Open next)) = open_agrees (class.class_of (name_in l m name)) next
+  other_agrees name (Some (tail.Empty next)) = empty_agrees (class.class_of (name_in l m name)) next
+  other_agrees name None = tt
 
   -- the alert stands in one state only
-  alert_agrees : (n : ℕ) (q : NameSpace) (r : Step) → m.state ≡ before → Agree (alert_step l m n q) r
+  alert_agrees : (name : List ℕ) (q : Result Binding NameSpaceError) (r : Step) → m.state ≡ before → Agree (alert_step l m name q) r
   unfolding bound_step
-  alert_agrees n (space.Bound p u next) r b =
-      cond_cases (λ (x : Step). Agree x r) (eql (after_prefix (part l p u) (part l (m.at + 1) n)) (class.name_of class.alert)) _ _
-      (λ e a. absurd (d (alert_before s a ∙ sym b)))
+  alert_agrees name (Ok b) r q =
+      cond_cases (λ (x : Step). Agree x r) (eql (after_prefix (part l b.from b.until) name) (class.name_of class.alert)) _ _
+      (λ e a. absurd (d (alert_before s a ∙ sym q)))
       (λ e. tt)
-  alert_agrees n space.Empty r b = tt
-  alert_agrees n space.Fault r b = tt
+  alert_agrees name (Err space.Empty) r q = tt
+  alert_agrees name (Err space.Fault) r q = tt
 
-  start_agrees : (n : ℕ) → Agree (start_step l m n) (start_step l (in_state s m) n)
+  start_agrees : (name : List ℕ) (n : ℕ) → Agree (start_step l m name n) (start_step l (in_state s m) name n)
   unfolding start_step is_alert
-  start_agrees n =
-      cond_cases (λ (x : Step). Agree x (start_step l (in_state s m) n)) (eqb n (m.at + 1) || eqb m.state over) _ _ (λ e. tt)
+  start_agrees name n =
+      cond_cases (λ (x : Step). Agree x (start_step l (in_state s m) name n)) (eqb (length name) 0 || eqb m.state over) _ _ (λ e. tt)
       (λ e.
-      cond_cases (λ (x : Step). Agree x (start_step l (in_state s m) n)) (is_alert l m n) _ _
-      (λ f. alert_agrees n (name_space l n) (start_step l (in_state s m) n) (eqb-true m.state before (and_left (eqb m.state before) _ f)))
+      cond_cases (λ (x : Step). Agree x (start_step l (in_state s m) name n)) (is_alert m name) _ _
+      (λ f. alert_agrees name (name_space l n) (start_step l (in_state s m) name n) (eqb-true m.state before (and_left (eqb m.state before) _ f)))
       (λ f.
-      go (or_none (eqb n (m.at + 1)) (eqb m.state over) e).0 (other_step l m n (tags.tail l n)) (other_agrees n (tags.tail l n))))
+      go (or_none (eqb (length name) 0) (eqb m.state over) e).0 (other_step l m name (tags.tail l n)) (other_agrees name (tags.tail l n))))
     where
       go :
-          eqb n (m.at + 1) ≡ false → (x : Step) → AgreeInside x (other_step l (in_state s m) n (tags.tail l n))
-          → Agree x (start_step l (in_state s m) n)
+          eqb (length name) 0 ≡ false → (x : Step) → AgreeInside x (other_step l (in_state s m) name (tags.tail l n))
+          → Agree x (start_step l (in_state s m) name n)
       go e (Next m' v) h = λ a. let k = h a in rw (e, ne_eqb s over k.0.0, ne_eqb s before k.0.1) k.1
       go e Done h = tt
       go e (Refused p q) h = tt
 
   -- a leaf's end is taken in every state, a container's in each of its own in which nothing is missing
   right_end_agrees :
-      (n next : ℕ)
-      → Agree (cond (is_right_end l m n) (close_step m next) (Refused 15 m.at))
-      (cond (is_right_end l (in_state s m) n) (close_step (in_state s m) next) (Refused 15 m.at))
+      (name : List ℕ) (next : ℕ)
+      → Agree (cond (is_right_end l m name) (close_step m next) (Refused 15 m.at))
+      (cond (is_right_end l (in_state s m) name) (close_step (in_state s m) next) (Refused 15 m.at))
   unfolding close_step
-  right_end_agrees n next =
-      by_test (eqb m.leaf 0)
-      (λ q.
-      rw q
-      (cond_cases (λ (x : Step). Agree x (of_container (container_of s))) (is_named (container_of m.state)) _ _
-      (λ f.
-      cond_cases (λ (x : Step). Agree x (of_container (container_of s))) (eqb (next_of m.state 0) 0) _ _ (λ g. tt)
-      (λ g a. rw (← a.0, f, ne_eqb (next_of s 0) 0 a.1)))
-      (λ f. tt)))
-      (λ q. rw q (both Agree (is_named m.leaf) _ _ _ _ (λ f a. refl) (λ f. tt)))
+  right_end_agrees name next = go m.leaf refl
     where
       is_named : ℕ → Bool
-      is_named c = not (eqb c 0) && eql (name_in l m (m.at + 2) n) (class.name_of c)
+      is_named c = not (eqb c 0) && eql (name_in l m name) (class.name_of c)
 
       of_container : ℕ → Step
       of_container c =
           cond (is_named c)
-          (cond (eqb (next_of s 0) 0) (Refused 16 m.at) (Next (moved m next (next_of s 0) 0) (Closed c)))
+          (cond (eqb (next_of s 0) 0) (Refused 16 m.at) (Next (moved m next (next_of s 0) None) (Closed c)))
           (Refused 15 m.at)
 
-  end_agrees : (n : ℕ) (t : Tail) → Agree (end_step l m n t) (end_step l (in_state s m) n t)
-  end_agrees n (tail.Open next) = right_end_agrees n next
-  end_agrees n (tail.Empty next) = tt
-  end_agrees n tail.Fault = tt
+      go :
+          (leaf : Option ℕ) → m.leaf ≡ leaf
+          → Agree (cond (is_right_end l m name) (close_step m next) (Refused 15 m.at))
+          (cond (is_right_end l (in_state s m) name) (close_step (in_state s m) next) (Refused 15 m.at))
+      go (Some c) q = rw q (both Agree (is_named c) _ _ _ _ (λ f a. refl) (λ f. tt))
+      go None q =
+          rw q
+          (cond_cases (λ (x : Step). Agree x (of_container (container_of s))) (is_named (container_of m.state)) _ _
+          (λ f.
+          cond_cases (λ (x : Step). Agree x (of_container (container_of s))) (eqb (next_of m.state 0) 0) _ _ (λ g. tt)
+          (λ g a. rw (← a.0, f, ne_eqb (next_of s 0) 0 a.1)))
+          (λ f. tt))
 
-  tag_end_agrees : (f : TagEnd) → Agree (tag_end_step l m f) (tag_end_step l (in_state s m) f)
+  end_agrees : (name : List ℕ) (t : Option Tail) → Agree (end_step l m name t) (end_step l (in_state s m) name t)
+  end_agrees name (Some (tail.Open next)) = right_end_agrees name next
+  end_agrees name (Some (tail.Empty next)) = tt
+  end_agrees name None = tt
+
+  tag_end_agrees : (f : Option ℕ) → Agree (tag_end_step l m f) (tag_end_step l (in_state s m) f)
   unfolding ended_step
-  tag_end_agrees (At e) =
+  tag_end_agrees (Some e) =
       both Agree (starts_with (ascii "</") (drop m.at l)) _ _ _ _
-      (λ t. let n = tags.name_end l (m.at + 2) in end_agrees n (tags.tail l n))
-      (λ t. start_agrees (tags.name_end l (m.at + 1)))
-  tag_end_agrees Unended = tt
+      (λ t. end_agrees (name_at l (m.at + 2)) (tags.tail l (tags.name_end l (m.at + 2))))
+      (λ t. start_agrees (name_at l (m.at + 1)) (tags.name_end l (m.at + 1)))
+  tag_end_agrees None = tt
 
-  comment_agrees : (c : Comment) → Agree (comment_step l m c) (comment_step l (in_state s m) c)
-  comment_agrees (comment.After next) = both Agree (eqb m.leaf 0) _ _ _ _ (λ e a. refl) (λ e. tt)
-  comment_agrees comment.Fault = tt
-  comment_agrees comment.Unended = tt
+  comment_agrees : (c : Result ℕ CommentError) → Agree (comment_step l m c) (comment_step l (in_state s m) c)
+  comment_agrees (Ok next) = both Agree (is_none m.leaf) _ _ _ _ (λ e a. refl) (λ e. tt)
+  comment_agrees (Err comment.Fault) = tt
+  comment_agrees (Err comment.Unended) = tt
 
   construct_agrees : Agree (construct_step l m) (construct_step l (in_state s m))
   unfolding construct_step tag_step
@@ -222,7 +225,7 @@ module _ (l : List ℕ) (m : Mode) (s : ℕ) (d : s ≡ m.state → ⊥) where
       λ t.
       both Agree (starts_with (ascii "<!--") (drop m.at l)) _ _ _ _ (λ f. comment_agrees (comments.comment l (m.at + 4))) λ f.
       both Agree (eqb (get_or l m.at 0) (code "<")) _ _ _ _
-      (λ g. tag_end_agrees (tags.tag_end 0 (m.at + 1) (drop (m.at + 1) l)))
+      (λ g. tag_end_agrees (tags.tag_end None (m.at + 1) (drop (m.at + 1) l)))
       (λ g. tt)
 
 -- a construct that is taken in a mode is taken in every state that allows its element

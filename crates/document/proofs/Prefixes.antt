@@ -1,14 +1,16 @@
--- Names of tags: after the document's prefix, and after their first ":". Each answer of their functions, over plain values.
-use mathlib.Core.Path.{◌≡◌, refl, sym, ◌∙◌}
-use mathlib.Core.Bool.{Bool, true, false, ◌&&◌}
-use mathlib.Core.List.{List, [], ◌∷◌, ◌++◌}
-use Prim.Native.Nat.{ℕ, ◌+◌, ◌≤◌, ◌<◌}
-use Prim.Native.Char.{code}
+-- Names of tags: after the document's prefix, and after their first ":", as the library's functions find them.
+use Rattle.std.proofs.Common.{◌≡◌, refl, sym, ap, ◌∙◌, Bool, true, false, cond, ◌&&◌, Option, Some, None, List, [], ◌∷◌, ℕ, ◌+◌, ◌-◌, ◌<◌, ◌≤◌, Bor, length, take, drop, position, arith}
+use Rattle.std.proofs.lemmas.List.{take_rest}
+use Rattle.std.specs.Option.{MatchOption, unwrap_or}
+use Rattle.std.specs.List.{position_or_len}
+use lib.Dec.{eqb, ltb}
+use mathlib.Core.Bool.{false≢true}
+use lib.Pointwise.{pointwise}
+use lib.ListN.{drop_of_length-le}
+use lib.Seq.{drop-drop}
 use native.Mathlib.Nat.{le_of_suc-le-suc}
-use native.Mathlib.Omega.{arith}
-use borrow.Author.Tests.{not-false}
-use lib.Dec.{eqb}
-use lib.ListN.{length, drop, drop_of_length-le}
+use borrow.Author.Tests.{not-false, ltb-true, ltb-false}
+use Prim.Native.Char.{code}
 use Rattle.text.specs.Ascii.{ascii}
 use Rattle.text.specs.Logic.{by_test}
 use Rattle.text.specs.Parts.{starts_with}
@@ -16,37 +18,34 @@ use Rattle.text.proofs.Parts.{starts_append}
 use Rattle.text.specs.Bytes.{leading}
 use Rattle.document.specs.Tags.{after_prefix, is_before_colon, local_name}
 
--- ---- after the document's prefix
+-- ---- after a prefix
 
-no_prefix : (p n : List ℕ) → length p ≡ 0 → n ≡ after_prefix p n
-no_prefix [] n h = refl
-no_prefix (b ∷ p) n h = absurd (omega arith)
+-- what std says of a prefix that is stripped
+starts_same : (p l : List ℕ) → pointwise eqb (take (length p) l) p ≡ starts_with p l
+unfolding starts_with
+starts_same [] l = refl
+starts_same (a ∷ p) [] = refl
+starts_same (a ∷ p) (b ∷ l) = ap (λ (t : Bool). eqb b a && t) (starts_same p l)
 
-carried : (p n : List ℕ) → (length p ≡ 0 → ⊥) → starts_with (p ++ ascii ":") n ≡ true → drop (length p + 1) n ≡ after_prefix p n
-carried [] n h e = absurd (h refl)
-carried (b ∷ p) n h e = rw e
+-- the name after a prefix of a byte at least, and ":"
+under : (p n : List ℕ) → false ≡ eqb (length p) 0 → after_prefix p n ≡ cond (starts_with p n) (cond (starts_with (ascii ":") (drop (length p) n)) (drop 1 (drop (length p) n)) []) []
+under [] n h = absurd (false≢true h)
+under (b ∷ p) n h =
+    rw (← starts_append (b ∷ p) (ascii ":") n)
+    (by_test (starts_with (b ∷ p) n) (λ e. rw (e, drop-drop 1 (length (b ∷ p)) n)) (λ e. rw e))
 
-not_carried : (p n : List ℕ) → (length p ≡ 0 → ⊥) → starts_with (p ++ ascii ":") n ≡ false → [] ≡ after_prefix p n
-not_carried [] n h e = absurd (h refl)
-not_carried (b ∷ p) n h e = rw e
+module _ (p n : List ℕ) (some : false ≡ eqb (length p) 0) where
+  pub under_other : pointwise eqb (take (length p) n) p ≡ false → [] ≡ after_prefix p n
+  under_other e = rw (under p n some, sym (starts_same p n) ∙ e)
 
--- p is the prefix and n the name that were found
-module _ (prefix name p n : List ℕ) (d : p ≡ prefix) (e : n ≡ name) where
-  under : (r : List ℕ) → r ≡ after_prefix p n → r ≡ after_prefix prefix name
-  under r h = rw (← d, ← e) h
-
-  pub under_none : length p ≡ 0 → n ≡ after_prefix prefix name
-  under_none h = under n (no_prefix p n h)
-
-  module _ (a b : Bool) (f : a ≡ starts_with p n) (g : b ≡ starts_with (ascii ":") (drop (length p) n)) (some : length p ≡ 0 → ⊥) where
-    both : starts_with (p ++ ascii ":") n ≡ a && b
-    both = rw (f, g) (sym (starts_append p (ascii ":") n))
-
-    pub under_prefix : (r : List ℕ) → a && b ≡ true → r ≡ drop (length p + 1) n → r ≡ after_prefix prefix name
-    under_prefix r t h = under r (h ∙ carried p n some (both ∙ t))
-
-    pub under_other : a && b ≡ false → [] ≡ after_prefix prefix name
-    under_other t = under [] (not_carried p n some (both ∙ t))
+  pub under_prefix :
+      (rest : List ℕ) → pointwise eqb (take (length p) n) p ≡ true → rest ≡ drop (length p) n
+      → (r : Option (Bor (List ℕ))) (d : Bor (List ℕ)) → d.now ≡ []
+      → MatchOption r (pointwise eqb (take 1 rest) (ascii ":") ≡ false)
+      (λ x. (pointwise eqb (take 1 rest) (ascii ":") ≡ true) × (x.now ≡ drop 1 rest) × (length x.now + 1 ≡ length rest))
+      → (unwrap_or r d).now ≡ after_prefix p n
+  under_prefix rest e q (Some x) d z h = rw (under p n some, sym (starts_same p n) ∙ e, ← q, sym (starts_same (ascii ":") rest) ∙ h.0) h.1
+  under_prefix rest e q None d z h = rw (under p n some, sym (starts_same p n) ∙ e, ← q, sym (starts_same (ascii ":") rest) ∙ h) z
 
 -- ---- after the first ":"
 
@@ -58,12 +57,23 @@ colon_leads (b ∷ l) h =
     (λ e. rw e (colon_leads l (le_of_suc-le-suc (rw e at h))))
     (λ e. rw (e, not-false (eqb b (code ":")) e))
 
--- n bytes stand before the first ":"
-module _ (l : List ℕ) (n : ℕ) (d : n ≡ leading is_before_colon l) where
-  pub local_after : (r : List ℕ) → n < length l → r ≡ drop (n + 1) l → r ≡ local_name l
-  unfolding local_name
-  local_after r h e = rw (colon_leads l (rw (← d) h), ← d) e
+-- as many bytes as std counts stand before the first ":"
+leading_same : (l : List ℕ) → leading is_before_colon l ≡ position_or_len (λ b. eqb b 58) l
+leading_same [] = refl
+leading_same (b ∷ l) = by_test (eqb b 58) (λ e. rw e) (λ e. rw e (omega (arith, leading_same l)))
 
-  pub local_all : length l ≤ n → l ≡ local_name l
-  unfolding local_name starts_with
-  local_all h = rw (← d, drop_of_length-le l h)
+-- where std finds the first ":", or that it finds none
+found : (l : List ℕ) (o : Option ℕ) → o ≡ position (λ b. eqb b 58) l → MatchOption o (length l ≤ leading is_before_colon l) (λ i. (i ≡ leading is_before_colon l) × (i < length l))
+found l o e =
+    let n = position_or_len (λ b. eqb b 58) l in
+    by_test (ltb n (length l))
+    (λ t. rw (e, t) (sym (leading_same l), ltb-true n (length l) t))
+    (λ t. rw (e, t) (omega (arith, leading_same l, ltb-false n (length l) t)))
+
+pub local_after : (l : List ℕ) (i : ℕ) → Some i ≡ position (λ b. eqb b 58) l → take (length l - (i + 1)) (drop (i + 1) l) ≡ local_name l
+unfolding local_name
+local_after l i e = let h = found l (Some i) e in rw (take_rest l (i + 1), h.0, colon_leads l (rw h.0 at h.1))
+
+pub local_all : (l : List ℕ) → None ≡ position (λ b. eqb b 58) l → l ≡ local_name l
+unfolding local_name starts_with
+local_all l e = rw (drop_of_length-le l (found l None e))

@@ -5,15 +5,14 @@ use Prim.Native.Nat.{ℕ, zero, suc, ◌-◌, ◌<◌}
 use native.Mathlib.Omega.{arith}
 use lib.Dec.{ltb}
 use lib.ListN.{length}
+use Rattle.std.specs.Prelude.{Result, Ok, Err}
 use Rattle.text.specs.Logic.{cond_cases}
-use Rattle.xml.specs.declared.Prolog.{Prolog}
-use Rattle.xml.specs.declared.Prolog.TheVariants as prolog
+use Rattle.xml.specs.declared.PrologError.{PrologError}
 use Rattle.xml.specs.Opening as opening
 use Rattle.xml.proofs.Bounds.{prolog_fault}
 use Rattle.document.specs.declared.Mode.{Mode}
 use Rattle.document.specs.declared.Event.TheVariants.{Silent}
-use Rattle.document.specs.declared.Step.{Step}
-use Rattle.document.specs.declared.Step.TheVariants.{Next, Done, Refused}
+use Rattle.document.specs.Steps.{Step, Next, Done, Refused}
 use Rattle.document.specs.Elements.{given}
 use Rattle.document.specs.Constructs.{step_of}
 use Rattle.document.specs.Documents.{elements_of, begin, prolog_step, max_length, first_step, after, run, read_from}
@@ -26,9 +25,9 @@ unfolding first_step
 first_holds l P stop on =
     cond_cases P (ltb max_length (length l)) _ _ (λ e. stop 14 0 (omega arith, tt)) (λ e. go (opening.prolog l) refl)
   where
-    go : (r : Prolog) → opening.prolog l ≡ r → P (prolog_step r)
-    go (prolog.After at) q = on at
-    go (prolog.Fault p) q = stop 15 p (prolog_fault l p q, tt)
+    go : (r : Result ℕ PrologError) → opening.prolog l ≡ r → P (prolog_step r)
+    go (Ok at) q = on at
+    go (Err e) q = stop 15 e.offset (prolog_fault l e q, tt)
 
 -- two numbers of constructs above the number of bytes that are left are all one
 same_run : (l : List ℕ) (f g : ℕ) (m : Mode) → length l - m.at < f → length l - m.at < g → run f l m ≡ run g l m

@@ -13,7 +13,7 @@ use Rattle.schema.specs.Sequences.{next_of, container_of, before, over, classes}
 use Rattle.document.specs.declared.Mode.{Mode}
 use Rattle.document.specs.declared.Event.{Event}
 use Rattle.document.specs.declared.Event.TheVariants.{Silent, Opened, Text, Closed}
-use Rattle.document.specs.declared.Step.TheVariants.{Next, Done}
+use Rattle.document.specs.Steps.{Next, Done}
 use Rattle.document.specs.Elements.{Element, opened, text, closed, starts, total}
 use Rattle.document.specs.Tags.{max_infos}
 use Rattle.document.specs.Constructs.{step_of}

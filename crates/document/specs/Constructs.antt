@@ -1,24 +1,23 @@
 -- One construct of a document: a tag, a comment or the document's end, after any white space.
-use Rattle.std.specs.Prelude.{cond, List, ℕ, ◌+◌, eqb, leb, length, get_or, drop}
+use Rattle.std.specs.Prelude.{cond, None, is_none, Result, Ok, Err, List, ℕ, ◌+◌, eqb, leb, length, get_or, drop}
 use Prim.Native.Char.{code}
 use Rattle.text.specs.Ascii.{ascii}
 use Rattle.text.specs.Bytes.{spaces}
 use Rattle.text.specs.Parts.{starts_with}
-use Rattle.xml.specs.declared.Comment.{Comment}
-use Rattle.xml.specs.declared.Comment.TheVariants as comment
+use Rattle.xml.specs.declared.CommentError.{CommentError}
+use Rattle.xml.specs.declared.CommentError.TheVariants as comment
 use Rattle.xml.specs.Comments as comments
 use Rattle.schema.specs.Sequences.{over}
 use Rattle.document.specs.declared.Mode.{Mode}
 use Rattle.document.specs.declared.Event.TheVariants.{Silent}
-use Rattle.document.specs.declared.Step.{Step}
-use Rattle.document.specs.declared.Step.TheVariants.{Next, Done, Refused}
+use Rattle.document.specs.Steps.{Step, Next, Done, Refused}
 use Rattle.document.specs.Tags.{moved, tag_step}
 
 -- "Comments .. don't stand inside a text"
-abbrev pub comment_step : List ℕ → Mode → Comment → Step
-comment_step l m (comment.After next) = cond (eqb m.leaf 0) (Next (moved m next m.state 0) Silent) (Refused 15 m.at)
-comment_step l m comment.Fault = Refused 15 m.at
-comment_step l m comment.Unended = Refused 15 (length l)
+abbrev pub comment_step : List ℕ → Mode → Result ℕ CommentError → Step
+comment_step l m (Ok next) = cond (is_none m.leaf) (Next (moved m next m.state None) Silent) (Refused 15 m.at)
+comment_step l m (Err comment.Fault) = Refused 15 m.at
+comment_step l m (Err comment.Unended) = Refused 15 (length l)
 
 -- "for input that stops short (15), its length"
 abbrev pub stop_step : List ℕ → Mode → Step

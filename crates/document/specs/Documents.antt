@@ -1,18 +1,16 @@
 -- The whole document, "strictly left to right".
-use Rattle.std.specs.Prelude.{cond, List, [], ◌∷◌, ℕ, zero, suc, ltb, length}
+use Rattle.std.specs.Prelude.{cond, None, Result, Ok, Err, List, [], ◌∷◌, ℕ, zero, suc, ltb, length}
 use Rattle.text.specs.Parts.{part}
 use Rattle.text.specs.Answers.{Answer, gives, refuses, giving}
-use Rattle.xml.specs.declared.Prolog.{Prolog}
-use Rattle.xml.specs.declared.Prolog.TheVariants as prolog
+use Rattle.xml.specs.declared.PrologError.{PrologError}
 use Rattle.xml.specs.Opening as opening
 use Rattle.schema.specs.Sequences.{before}
+use Rattle.rules.specs.Faults.{fault_number}
 use Rattle.document.specs.declared.Mode.{Mode}
 use Rattle.document.specs.declared.Event.{Event}
 use Rattle.document.specs.declared.Event.TheVariants.{Silent, Opened, Text, Closed}
-use Rattle.document.specs.declared.Step.{Step}
-use Rattle.document.specs.declared.Step.TheVariants.{Next, Done, Refused}
-use Rattle.document.specs.declared.Check.{Check}
-use Rattle.document.specs.declared.Check.TheVariants as check
+use Rattle.document.specs.Steps.{Step, Next, Done, Refused}
+use Rattle.document.specs.declared.Refusal.{Refusal}
 use Rattle.document.specs.Elements.{Element, opened, text, closed, given, total}
 use Rattle.document.specs.Constructs.{step_of}
 
@@ -25,12 +23,12 @@ elements_of l (Closed c) = closed c ∷ []
 
 -- before the first construct
 abbrev pub begin : ℕ → Mode
-begin at = record { at = at; state = before; leaf = 0; infos = 0; prefix_start = 0; prefix_end = 0 }
+begin at = record { at = at; state = before; leaf = None; infos = 0; prefix_start = 0; prefix_end = 0 }
 
 -- what stands before the first construct
-abbrev pub prolog_step : Prolog → Step
-prolog_step (prolog.After at) = Next (begin at) Silent
-prolog_step (prolog.Fault p) = Refused 15 p
+abbrev pub prolog_step : Result ℕ PrologError → Step
+prolog_step (Ok at) = Next (begin at) Silent
+prolog_step (Err e) = Refused 15 e.offset
 
 -- 14: "CAP document over 65,536 bytes"
 abbrev pub max_length : ℕ
@@ -62,6 +60,6 @@ document_of l = after l (read_from l) (first_step l)
 unfoldable pub check_of : List ℕ → Answer ℕ
 check_of l = giving total (document_of l)
 
-abbrev pub check_answer : Check → Answer ℕ
-check_answer (check.Accepted n) = gives n
-check_answer (check.Refused n p) = refuses n p
+abbrev pub check_answer : Result ℕ Refusal → Answer ℕ
+check_answer (Ok n) = gives n
+check_answer (Err r) = refuses (fault_number r.fault) r.offset

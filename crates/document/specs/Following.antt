@@ -6,7 +6,7 @@ use Rattle.schema.specs.Sequences.{particles, Matches}
 use Rattle.document.specs.declared.Mode.{Mode}
 use Rattle.document.specs.declared.Event.{Event}
 use Rattle.document.specs.declared.Event.TheVariants.{Silent}
-use Rattle.document.specs.declared.Step.TheVariants.{Next, Done}
+use Rattle.document.specs.Steps.{Next, Done}
 use Rattle.document.specs.Elements.{Element, opened, text, closed}
 use Rattle.document.specs.Tags.{moved}
 use Rattle.document.specs.Constructs.{step_of}

@@ -1,4 +1,5 @@
 pub mod Elements
+pub mod Steps
 pub mod Tags
 pub mod Constructs
 pub mod Tested

@@ -1,11 +1,13 @@
 -- A construct may be read without testing the rule of its text, so that whoever reads the text for something else too can test it then.
-use Rattle.std.specs.Prelude.{Bool, true, false, cond, List, ℕ, eqb}
+use Rattle.std.specs.Prelude.{cond, Result, Ok, Err, List, ℕ, eqb}
 use Rattle.text.specs.Parts.{part}
 use Rattle.rules.specs.Texts.{text_rule}
+use Rattle.rules.specs.Faults.{fault_number}
+use Rattle.document.specs.declared.Mode.{Mode}
 use Rattle.document.specs.declared.Event.{Event}
 use Rattle.document.specs.declared.Event.TheVariants.{Silent, Opened, Text, Closed}
-use Rattle.document.specs.declared.Step.{Step}
-use Rattle.document.specs.declared.Step.TheVariants.{Next, Done, Refused}
+use Rattle.document.specs.declared.Refusal.{Refusal}
+use Rattle.document.specs.Steps.{Step, Next, Done, Refused}
 
 -- the number that the rule of an event's text gives; 0 for a text that keeps to it, and for an event without one
 abbrev pub event_rule : List ℕ → Event → ℕ
@@ -27,7 +29,7 @@ tested l (Next m e) = cond (eqb (event_rule l e) 0) (Next m e) (Refused (event_r
 tested l Done = Done
 tested l (Refused n p) = Refused n p
 
--- the same, where a flag says whether the rule was tested when the step was read
-abbrev pub tested_unless : Bool → List ℕ → Step → Step
-tested_unless true l r = r
-tested_unless false l r = tested l r
+-- the answer to testing the text of a step's event
+abbrev pub test_answer : Mode → Event → Result Unit Refusal → Step
+test_answer m e (Ok u) = Next m e
+test_answer m e (Err r) = Refused (fault_number r.fault) r.offset

@@ -1,102 +1,86 @@
 // Elements after a start tag whose name is known: containers, and leaves with their texts.
-ghost use Rattle.std.specs.Prelude.{◌≡◌};
+ghost use Rattle.std.specs.Prelude.{◌≡◌, List, ℕ};
 ghost use Rattle.xml.specs.Texts.{content};
-ghost use Rattle.schema.specs.Sequences.{next_of};
-ghost use Rattle.document.specs.Tags.{ruled, text_step, enter_step, is_misplaced, open_step, empty_step};
-ghost use Rattle.document.specs.Tested.{tested_unless};
+ghost use Rattle.document.specs.Steps.{taken_answer};
+ghost use Rattle.document.specs.Tags.{text_step, enter_step, next_state, open_step, empty_step};
+ghost use Rattle.document.specs.Tested.{tested};
 
-use crate::modes::{entered, moved};
-use crate::{Event, Mode, Step};
+use crate::{Event, Mode, Refusal};
+use rules::Fault;
 use schema::class;
-use xml::Content;
+use xml::ContentError;
 
 // How many infos an alert may have.
 const MAX_INFOS: usize = 16;
 
-// A text with the number that its rule gives, 0 for none.
-fn rule_step(
+// The text of a leaf, which starts at an offset. Its rule is still to be tested.
+fn text_step(
+    s: &[u8],
     m: Mode,
     state: usize,
-    leaf: usize,
     class: usize,
     from: usize,
-    until: usize,
-    number: u8,
-) -> Step
-    ensures { result ≡ ruled m state leaf class from until number }
+) -> Result<(Mode, Event), Refusal>
+    ensures { tested s.now (taken_answer result) ≡ text_step s.now m state class from (content s.now from) }
 {
-    if number == 0 {
-        return Step::Next(
-            moved(m, until, state, leaf),
+    match xml::texts::read_text(s, from) {
+        Ok(until) => Ok((
+            m.moved(until, state, Some(class)),
             Event::Text(class, from, until),
-        );
-    }
-    Step::Refused(number, from)
-}
-
-// The text of a leaf, which starts at an offset; its rule is tested or not.
-fn text_step(s: &[u8], m: Mode, test: bool, state: usize, class: usize, from: usize) -> Step
-    ensures { tested_unless test s.now result ≡ text_step s.now m state class from (content s.now from) }
-{
-    let content = xml::texts::read_text(s, from);
-    match content {
-        Content::Clean(e) => {
-            if !test {
-                return rule_step(m, state, class, class, from, e, 0);
-            }
-            let number = rules::text_rule(class, text::part(s, from, e));
-            rule_step(m, state, class, class, from, e, number)
-        }
-        Content::Fault(offset) => Step::Refused(15, offset),
-        Content::Unended => Step::Refused(15, s.len()),
+        )),
+        Err(ContentError::Fault(offset)) => Err(Refusal {
+            fault: Fault::Form,
+            offset,
+        }),
+        Err(ContentError::Unended) => Err(Refusal::short(s)),
     }
 }
 
 // A container's start tag, which ends before an offset.
-fn enter_step(m: Mode, state: usize, class: usize, next: usize) -> Step
-    ensures { result ≡ enter_step m state class next }
+fn enter_step(m: Mode, state: usize, class: usize, next: usize) -> Result<(Mode, Event), Refusal>
+    ensures { (l : List ℕ) → tested l (taken_answer result) ≡ enter_step m state class next }
 {
+    let mut infos = m.infos;
     if class == class::INFO {
-        if MAX_INFOS <= m.infos {
-            return Step::Refused(14, m.at);
+        if MAX_INFOS <= infos {
+            return Err(m.refuse(Fault::TooLong));
         }
-        return Step::Next(
-            entered(m, state, m.infos + 1, next),
-            Event::Opened(class, m.at),
-        );
+        infos += 1;
     }
-    Step::Next(entered(m, state, m.infos, next), Event::Opened(class, m.at))
+    Ok((m.entered(state, infos, next), Event::Opened(class, m.at)))
 }
 
-// Whether an element of a class may not stand here; state is the one after it, 0 for none.
-fn is_misplaced(m: Mode, class: usize, state: usize) -> bool
-    requires { state ≡ next_of m.state class }
-    ensures { result ≡ is_misplaced m class }
+// The state after the start of an element of a class, or the refusal where it may not stand here.
+fn next_state(m: Mode, class: usize) -> Result<usize, Refusal>
+    ensures { result ≡ next_state m class }
 {
-    (class == 0) | (m.leaf != 0) | (state == 0)
+    let state = schema::order::next(m.state, class);
+    if class == 0 || m.leaf.is_some() || state == 0 {
+        return Err(m.refuse(Fault::Element));
+    }
+    Ok(state)
 }
 
 // The start tag of an element of a class, which ends before an offset.
-pub fn open_step(s: &[u8], m: Mode, test: bool, class: usize, next: usize) -> Step
-    ensures { tested_unless test s.now result ≡ open_step s.now m class next }
+#[tactic(auto, unfolding(crate::specs::Tags::open_step))]
+pub fn open_step(s: &[u8], m: Mode, class: usize, next: usize) -> Result<(Mode, Event), Refusal>
+    ensures { tested s.now (taken_answer result) ≡ open_step s.now m class next }
 {
-    let state = schema::order::next(m.state, class);
-    if is_misplaced(m, class, state) {
-        return Step::Refused(16, m.at);
-    }
+    let state = next_state(m, class)?;
     if class <= class::GEOCODE {
         return enter_step(m, state, class, next);
     }
-    text_step(s, m, test, state, class, next)
+    text_step(s, m, state, class, next)
 }
 
-// The empty tag of an element of a class, which ends before an offset.
-pub fn empty_step(m: Mode, class: usize, next: usize) -> Step
-    ensures { result ≡ empty_step m class next }
+// The empty tag of an element of a class, which ends before an offset: an empty text, whose rule is still to be tested.
+#[tactic(auto, using(text::proofs::Parts::part_none), unfolding(crate::specs::Tags::empty_step))]
+pub fn empty_step(m: Mode, class: usize, next: usize) -> Result<(Mode, Event), Refusal>
+    ensures { (l : List ℕ) → tested l (taken_answer result) ≡ empty_step m class next }
 {
-    let state = schema::order::next(m.state, class);
-    if is_misplaced(m, class, state) | (class <= class::GEOCODE) {
-        return Step::Refused(16, m.at);
+    let state = next_state(m, class)?;
+    if class <= class::GEOCODE {
+        return Err(m.refuse(Fault::Element));
     }
-    rule_step(m, state, 0, class, next, next, rules::text_rule(class, b""))
+    Ok((m.moved(next, state, None), Event::Text(class, next, next)))
 }

@@ -2,10 +2,13 @@
 
 #![tactic(auto)]
 
-ghost use Rattle.std.specs.Prelude.{◌≡◌};
+ghost use Rattle.std.specs.Prelude.{◌≡◌, length};
+ghost use Rattle.rules.specs.declared.Fault.TheVariants.{Form};
+ghost use Rattle.document.specs.Steps.{step_answer};
 ghost use Rattle.document.specs.Documents.{first_step, check_of, check_answer};
 
-use xml::Prolog;
+use rules::Fault;
+use xml::PrologError;
 
 pub mod constructs; // constructs.rt: one construct
 mod elements; // elements.rt: after a start tag
@@ -16,20 +19,20 @@ mod tags; // tags.rt: tags
 // The largest length of a document, in bytes.
 pub const MAX_LENGTH: usize = 65_536;
 
-// Where reading stands: the offset, the state of the container, the leaf whose end tag is due (0 for none), the infos so far,
+// Where reading stands: the offset, the state of the container, the leaf whose end tag is due, if one is, the infos so far,
 // and where the document's prefix stands.
 #[derive(Clone, Copy)]
 pub struct Mode {
     pub at: usize,
     pub state: usize,
-    pub leaf: usize,
+    pub leaf: Option<usize>,
     pub infos: usize,
     pub prefix_start: usize,
     pub prefix_end: usize,
 }
 
 // What a construct tells: nothing; a container's start (class, offset); a leaf's text (class, from, until); a container's end (class).
-#[derive(Drop)]
+#[derive(Clone, Copy, Debug, PartialEq, Eq)]
 pub enum Event {
     Silent,
     Opened(usize, usize),
@@ -37,53 +40,60 @@ pub enum Event {
     Closed(usize),
 }
 
-// What one construct gives: the mode after it and what it tells, the document's end, or a refusal (number, offset).
-#[derive(Drop)]
-pub enum Step {
-    Next(Mode, Event),
-    Done,
-    Refused(u8, usize),
+// Why a document is refused, and where.
+#[derive(Clone, Copy, Debug, PartialEq, Eq)]
+pub struct Refusal {
+    pub fault: Fault,
+    pub offset: usize,
 }
 
-// The answer to checking a document: accepted with its number of parts, or refused (number, offset).
-#[derive(Drop)]
-pub enum Check {
-    Accepted(usize),
-    Refused(u8, usize),
+impl Refusal {
+    // Input that stops short is refused at its length.
+    fn short(s: &[u8]) -> Refusal
+        ensures { result ≡ record { fault = Fault.Form; offset = length s.now } }
+    {
+        Refusal {
+            fault: Fault::Form,
+            offset: s.len(),
+        }
+    }
+}
+
+impl From<PrologError> for Refusal {
+    ghost from_gives = { λ e r. r ≡ record { fault = Form; offset = e.offset } };
+
+    fn from(error: PrologError) -> Refusal {
+        Refusal {
+            fault: Fault::Form,
+            offset: error.offset,
+        }
+    }
 }
 
 // The first step: past what stands before the first construct, or a refusal. Every loop over a document starts with it.
-pub fn first_step(s: &[u8]) -> Step
-    ensures { result ≡ first_step s.now }
+#[tactic(auto, unfolding(crate::specs::Documents::first_step))]
+pub fn first_step(s: &[u8]) -> Result<Option<(Mode, Event)>, Refusal>
+    ensures { step_answer result ≡ first_step s.now }
 {
     if MAX_LENGTH < s.len() {
-        return Step::Refused(14, 0);
+        return Err(Refusal {
+            fault: Fault::TooLong,
+            offset: 0,
+        });
     }
-    let prolog = xml::opening::read_prolog(s);
-    match prolog {
-        Prolog::After(at) => Step::Next(modes::begin(at), Event::Silent),
-        Prolog::Fault(offset) => Step::Refused(15, offset),
-    }
+    let at = xml::opening::read_prolog(s)?;
+    Ok(Some((Mode::begin(at), Event::Silent)))
 }
 
 // Checks a document: accepted with its number of parts, or refused with number and place.
-pub fn check_document(s: &[u8]) -> Check
+pub fn check_document(s: &[u8]) -> Result<usize, Refusal>
     ensures { check_answer result ≡ check_of s.now }
 {
-    let mut step = first_step(s);
     let mut infos = 0;
-    loop {
-        match step {
-            Step::Next(m, event) => {
-                infos = m.infos;
-                step = constructs::take_step(s, m);
-            }
-            Step::Done => {
-                return Check::Accepted(infos);
-            }
-            Step::Refused(number, offset) => {
-                return Check::Refused(number, offset);
-            }
-        }
+    let mut step = first_step(s)?;
+    while let Some((m, _)) = step {
+        infos = m.infos;
+        step = constructs::take_step(s, m)?;
     }
+    Ok(infos)
 }

@@ -1,12 +1,12 @@
 -- The text of a code in a sentence is the document's in small letters: a text of a list, its number, the value and the value's text.
-use mathlib.Core.Path.{◌≡◌, refl, sym, ap, ◌∙◌}
+use mathlib.Core.Path.{◌≡◌, sym, ap, ◌∙◌}
 use mathlib.Core.Bool.{◌||◌}
 use mathlib.Core.List.{List, [], ◌∷◌, map}
-use Prim.Native.Nat.{ℕ, zero, suc, ◌+◌, ◌-◌, ◌≤◌}
+use Prim.Native.Nat.{ℕ, suc, ◌+◌, ◌-◌, ◌≤◌}
 use native.Mathlib.Omega.{arith}
 use borrow.Author.Tests.{eqb-true, ne_eqb}
 use lib.Dec.{T, eqb}
-use lib.ListN.{length, get_or}
+use lib.ListN.{length, get_or, get_or-map}
 use Rattle.text.specs.Logic.{below, below_at}
 use Rattle.codes.specs.Lists as list
 use Rattle.codes.specs.Lists.{lists, codes, code_of, small, small_text}
@@ -15,12 +15,6 @@ use Rattle.schema.proofs.Naming.{find_at, find_below}
 use Rattle.parts.specs.Codes.{message_of, status_of, scope_of, urgency_of, severity_of, certainty_of}
 
 -- ---- any list
-
-small_get_d : (ns : List (List ℕ)) (i : ℕ) → get_or (map small ns) i [] ≡ small (get_or ns i [])
-small_get_d [] zero = refl
-small_get_d [] (suc i) = refl
-small_get_d (n ∷ ns) zero = refl
-small_get_d (n ∷ ns) (suc i) = small_get_d ns i
 
 module _ (l : ℕ) (t : List ℕ) (h : code_of l t ≡ 0 → ⊥) where
   -- a number of the list
@@ -36,7 +30,7 @@ module _ (l : ℕ) (t : List ℕ) (h : code_of l t ≡ 0 → ⊥) where
   found_text =
       let p = find_at 1 t (codes l) h in
       let z : code_of l t ≡ suc (code_of l t - 1) = omega (arith, p.0) in
-      ap (λ (k : ℕ). get_or ([] ∷ map small (codes l)) k []) z ∙ small_get_d (codes l) (code_of l t - 1) ∙ ap small (sym p.1)
+      ap (λ (k : ℕ). get_or ([] ∷ map small (codes l)) k []) z ∙ get_or-map small (codes l) (code_of l t - 1) [] ∙ ap small (sym p.1)
 
 -- each number of a list is that of the value it gives
 abbrev Backs : {A : Type 0} → ℕ → (A → ℕ) → (ℕ → A) → Type 0

@@ -4,10 +4,9 @@ use mathlib.Core.List.{List}
 use Prim.Native.Nat.{ℕ, ◌≤◌}
 use borrow.Author.Tests.{eqb-true, eqb-false}
 use lib.Dec.{eqb}
+use Rattle.std.specs.Prelude.{Option, Some, None}
 use Rattle.text.specs.Answers.{Answer, gives, refuses, answer_and_then, giving, IfGiven}
 use Rattle.text.specs.Logic.{by_test}
-use Rattle.sheet.specs.declared.Lasting.{Lasting}
-use Rattle.sheet.specs.declared.Parts.TheVariants as parts
 use Rattle.sheet.specs.declared.Found.{Found}
 use Rattle.document.specs.Elements.{Element, total}
 use Rattle.document.specs.Documents.{document_of}
@@ -16,15 +15,15 @@ use Rattle.parts.specs.Sheets.{lasts_of, part_facts, sheet_with, parts_of, sheet
 use Rattle.parts.proofs.Lookups.{there_part, there_within, there_none}
 
 module _ (l : List ℕ) (n : ℕ) (P : Found → Type 0)
-    (none : (es : List Element) → document_of l ≡ gives es → n ≡ 0 → total es ≡ 0 → P (sheet_with l (text_span (alert_of es)) parts.NoPart))
+    (none : (es : List Element) → document_of l ≡ gives es → n ≡ 0 → total es ≡ 0 → P (sheet_with l (text_span (alert_of es)) None))
     (some : (es : List Element) → document_of l ≡ gives es → 1 ≤ n → n ≤ total es
-    → (d : Lasting) → lasts_of l (text_span (alert_of es)) (text_span (part_of n es)) ≡ gives d
-    → P (sheet_with l (text_span (alert_of es)) (parts.OnePart (part_facts l n (total es) (text_span (part_of n es)) d)))) where
+    → (d : Option ℕ) → lasts_of l (text_span (alert_of es)) (text_span (part_of n es)) ≡ gives d
+    → P (sheet_with l (text_span (alert_of es)) (Some (part_facts l n (total es) (text_span (part_of n es)) d)))) where
   module _ (es : List Element) (doc : document_of l ≡ gives es) where
     lasting_holds :
-        1 ≤ n → n ≤ total es → (r : Answer Lasting) → lasts_of l (text_span (alert_of es)) (text_span (part_of n es)) ≡ r
+        1 ≤ n → n ≤ total es → (r : Answer (Option ℕ)) → lasts_of l (text_span (alert_of es)) (text_span (part_of n es)) ≡ r
         → IfGiven P
-        (giving (sheet_with l (text_span (alert_of es))) (giving (λ d. parts.OnePart (part_facts l n (total es) (text_span (part_of n es)) d)) r))
+        (giving (sheet_with l (text_span (alert_of es))) (giving (λ d. Some (part_facts l n (total es) (text_span (part_of n es)) d)) r))
     lasting_holds g h (gives d) e = some es doc g h d e
     lasting_holds g h (refuses k p) e = tt
 

@@ -7,10 +7,10 @@ use Prim.Native.Nat.{ℕ}
 use lib.Dec.{eqb, leb}
 use types.Run.{OneOf}
 use lib.IntN.{ℤ, nat_abs, ◌-ℤ◌}
+use Rattle.std.specs.Prelude.{Some}
 use Rattle.text.specs.Answers.{Answer, gives, refuses, answer_and_then, giving}
 use Rattle.text.specs.Logic.{cond_cases}
 use Rattle.time.specs.Time.{time_of}
-use Rattle.sheet.specs.declared.Lasting.TheVariants as lasting
 use Rattle.sheet.specs.declared.Span.{Span}
 use Rattle.sheet.specs.Reading.{span_in}
 use Rattle.coordinates.specs.declared.Place.{Place}
@@ -66,7 +66,7 @@ lasts_refused : (start expires : Answer ℤ) → Refused sheet_numbers (lasts_fr
 lasts_refused start (refuses n p) = tt
 lasts_refused (refuses n p) (gives e) = inr (inl refl)
 lasts_refused (gives s) (gives e) =
-    cond_cases (Refused sheet_numbers) (between (e -ℤ s)) (gives (lasting.Seconds (nat_abs (e -ℤ s)))) (refuses 7 0) (λ b. tt) (λ b. inr (inl refl))
+    cond_cases (Refused sheet_numbers) (between (e -ℤ s)) (gives (Some (nat_abs (e -ℤ s)))) (refuses 7 0) (λ b. tt) (λ b. inr (inl refl))
 
 parts_refused : (l : List ℕ) (t : ℕ) (alert part : ℕ → Span) (k : ℕ) → Refused sheet_numbers (parts_of l t alert part k)
 unfolding lasts_of

@@ -6,11 +6,11 @@ use Prim.Native.Nat.{ℕ, ◌+◌, ◌≤◌}
 use borrow.Author.Tests.{le-leb}
 use lib.IntN.{ℤ, pos, negsuc, nat_abs, ◌-ℤ◌}
 use lib.ListN.{length}
+use Rattle.std.specs.Prelude.{Some}
 use Rattle.text.specs.Logic.{cond_cases}
 use Rattle.text.specs.Answers.{Answer, gives, refuses, IfGiven}
 use Rattle.words.specs.Duration.{is_lasting}
 use Rattle.time.specs.Time.{time_of}
-use Rattle.sheet.specs.declared.Lasting.TheVariants as lasting
 use Rattle.sheet.specs.declared.CapFacts.{CapFacts}
 use Rattle.sheet.specs.declared.Span.{Span}
 use Rattle.sheet.specs.declared.Found.{Found}
@@ -28,7 +28,7 @@ use Rattle.drawn.proofs.Spans.{NameIn, name_in, sender_in_lem}
 -- ---- the lasting time
 
 -- a difference of instants that is stated is a lasting time
-seconds_right : (z : ℤ) → IfGiven (λ d. is_lasting_time d ≡ true) (cond (between z) (gives (lasting.Seconds (nat_abs z))) (refuses 7 0))
+seconds_right : (z : ℤ) → IfGiven (λ d. is_lasting_time d ≡ true) (cond (between z) (gives (Some (nat_abs z))) (refuses 7 0))
 seconds_right (pos n) = cond_cases (IfGiven (λ d. is_lasting_time d ≡ true)) (is_lasting n) _ _ (λ e. e) (λ e. tt)
 seconds_right (negsuc n) = tt
 

@@ -7,16 +7,13 @@ use native.Mathlib.Omega.{arith}
 use borrow.Author.Tests.{eqb-true, eqb-false}
 use lib.Dec.{eqb}
 use lib.IntN.{ℤ, nat_abs, ◌-ℤ◌}
+use Rattle.std.specs.Prelude.{Option, Some, None}
 use Rattle.text.specs.Answers.{Answer, gives, refuses, IfGiven}
 use Rattle.text.specs.Logic.{by_test, cond_cases, clash}
 use Rattle.time.specs.Time.{has_form, stamp_time, time_of}
 use Rattle.codes.specs.Lists.{small}
 use Rattle.codes.specs.Values.{message_text, status_text, scope_text, urgency_text, severity_text, certainty_text}
-use Rattle.sheet.specs.declared.Lasting.{Lasting}
-use Rattle.sheet.specs.declared.Lasting.TheVariants as lasting
 use Rattle.sheet.specs.declared.Part.{Part}
-use Rattle.sheet.specs.declared.Parts.{Parts}
-use Rattle.sheet.specs.declared.Parts.TheVariants as parts
 use Rattle.sheet.specs.declared.CapFacts.{CapFacts}
 use Rattle.sheet.specs.declared.Span.{Span}
 use Rattle.sheet.specs.declared.Found.{Found}
@@ -55,12 +52,12 @@ pub record PartSays (n : ℕ) (es : List Element) (x : Part) : Type 0 where
   pub urgency : Every (Text class.urgency (λ p t. urgency_text x.urgency ≡ small t)) (part_of n es)
   pub severity : Every (Text class.severity (λ p t. severity_text x.severity ≡ small t)) (part_of n es)
   pub certainty : Every (Text class.certainty (λ p t. certainty_text x.certainty ≡ small t)) (part_of n es)
-  pub unstated : many class.expires (part_of n es) ≡ 0 → x.lasting ≡ lasting.Unstated
-  pub stated : x.lasting ≡ lasting.Unstated → many class.expires (part_of n es) ≡ 0
+  pub unstated : many class.expires (part_of n es) ≡ 0 → x.lasting ≡ None
+  pub stated : x.lasting ≡ None → many class.expires (part_of n es) ≡ 0
 
-abbrev pub PartsSay : ℕ → List Element → Parts → Type 0
-PartsSay n es parts.NoPart = (n ≡ 0) × (total es ≡ 0)
-PartsSay n es (parts.OnePart x) = PartSays n es x
+abbrev pub PartsSay : ℕ → List Element → Option Part → Type 0
+PartsSay n es None = (n ≡ 0) × (total es ≡ 0)
+PartsSay n es (Some x) = PartSays n es x
 
 abbrev pub Says : List ℕ → ℕ → List Element → Found → Type 0
 Says l n es (found.Cap f sender name) = AlertSays l es f sender name × PartsSay n es f.parts
@@ -104,31 +101,31 @@ unfolding time_of stamp_time has_form
 empty_time = refl
 
 -- what lasts to an instant has a stated time
-stated_from : (start : Answer ℤ) (e : ℤ) (d : Lasting) → lasts_from start (gives e) ≡ gives d → d ≡ lasting.Unstated → ⊥
+stated_from : (start : Answer ℤ) (e : ℤ) (d : Option ℕ) → lasts_from start (gives e) ≡ gives d → d ≡ None → ⊥
 stated_from (refuses n p) e d = λ q u. clash (cc)
 stated_from (gives s) e d =
-    cond_cases (λ (r : Answer Lasting). r ≡ gives d → d ≡ lasting.Unstated → ⊥) (between (e -ℤ s)) (gives (lasting.Seconds (nat_abs (e -ℤ s)))) (refuses 7 0)
+    cond_cases (λ (r : Answer (Option ℕ)). r ≡ gives d → d ≡ None → ⊥) (between (e -ℤ s)) (gives (Some (nat_abs (e -ℤ s)))) (refuses 7 0)
     (λ b q u. clash (cc)) (λ b q u. clash (cc))
 
-module _ (l : List ℕ) (es : List Element) (doc : document_of l ≡ gives es) (n : ℕ) (d : Lasting)
+module _ (l : List ℕ) (es : List Element) (doc : document_of l ≡ gives es) (n : ℕ) (d : Option ℕ)
     (lasts : lasts_of l (text_span (alert_of es)) (text_span (part_of n es)) ≡ gives d) where
   abbrev start : Answer ℤ
   start = start_of (time_of (said l es doc n class.effective)) (time_of (said l es doc 0 class.sent))
 
-  no_expires : many class.expires (part_of n es) ≡ 0 → d ≡ lasting.Unstated
+  no_expires : many class.expires (part_of n es) ≡ 0 → d ≡ None
   unfolding lasts_of
   no_expires m =
       let e : time_of (said l es doc n class.expires) ≡ refuses 18 0 = ap time_of (said_none l es doc n class.expires m) ∙ empty_time in
       let q : lasts_from start (refuses 18 0) ≡ gives d = sym (ap (lasts_from start) e) ∙ lasts in
       cc
 
-  some_expires : 1 ≤ many class.expires (part_of n es) → d ≡ lasting.Unstated → ⊥
+  some_expires : 1 ≤ many class.expires (part_of n es) → d ≡ None → ⊥
   unfolding lasts_of text_rule
   some_expires m =
       let k = time_kept (said l es doc n class.expires) (said_ruled l es doc n class.expires m) in
       stated_from start k.0 d (sym (ap (lasts_from start) k.1) ∙ lasts)
 
-  is_stated : d ≡ lasting.Unstated → many class.expires (part_of n es) ≡ 0
+  is_stated : d ≡ None → many class.expires (part_of n es) ≡ 0
   is_stated u =
       by_test (eqb (many class.expires (part_of n es)) 0) (λ e. eqb-true _ _ e)
       (λ e. absurd (some_expires (omega (arith, eqb-false (many class.expires (part_of n es)) 0 e)) u))
@@ -145,7 +142,7 @@ module _ (l : List ℕ) (es : List Element) (d : document_of l ≡ gives es) (n 
       said_is l es d n c (omega arith) (λ t. say (said l es d n c) ≡ small t) (law (said l es d n c) r)
 
 module _ (l : List ℕ) (es : List Element) (d : document_of l ≡ gives es) where
-  alert_says : (ps : Parts) → AlertSays l es (facts_of l (text_span (alert_of es)) ps) (text_span (alert_of es) class.sender) (text_span (alert_of es) class.identifier)
+  alert_says : (ps : Option Part) → AlertSays l es (facts_of l (text_span (alert_of es)) ps) (text_span (alert_of es) class.sender) (text_span (alert_of es) class.identifier)
   unfolding text_rule
   alert_says ps =
       let o = alert_once l es d in record {
@@ -157,7 +154,7 @@ module _ (l : List ℕ) (es : List Element) (d : document_of l ≡ gives es) whe
       }
 
   part_says :
-      (n : ℕ) → 1 ≤ n → n ≤ total es → (x : Lasting) → lasts_of l (text_span (alert_of es)) (text_span (part_of n es)) ≡ gives x
+      (n : ℕ) → 1 ≤ n → n ≤ total es → (x : Option ℕ) → lasts_of l (text_span (alert_of es)) (text_span (part_of n es)) ≡ gives x
       → PartSays n es (part_facts l n (total es) (text_span (part_of n es)) x)
   unfolding text_rule
   part_says n g h x e =
@@ -175,9 +172,9 @@ pub sheet_says : (l : List ℕ) (n : ℕ) (x : Found) → cap_sheet n l ≡ give
 sheet_says l n x q =
     subst (IfGiven (λ (x : Found). (es : List Element) → document_of l ≡ gives es → Says l n es x)) q
     (drawn_holds l n (λ (x : Found). (es : List Element) → document_of l ≡ gives es → Says l n es x)
-    (λ es d z t. other (sheet_with l (text_span (alert_of es)) parts.NoPart) es d (alert_says l es d parts.NoPart, (z, t)))
+    (λ es d z t. other (sheet_with l (text_span (alert_of es)) None) es d (alert_says l es d None, (z, t)))
     (λ es d g h x e.
-    let ps = parts.OnePart (part_facts l n (total es) (text_span (part_of n es)) x) in
+    let ps = Some (part_facts l n (total es) (text_span (part_of n es)) x) in
     other (sheet_with l (text_span (alert_of es)) ps) es d (alert_says l es d ps, part_says l es d n g h x e)))
   where
     -- a document has one list of elements

@@ -3,6 +3,5 @@ pub mod Sweeping
 pub mod Outcomes
 pub mod Listing
 pub mod ListedRoom
-pub mod ListByValue
 pub mod Receipt2
 pub mod RunningList

@@ -1,90 +1,70 @@
--- The checks, the pass over the entries and the plan come to `received`, over entries of any number.
+-- The search and the decision come to `table_outcome`, over entries of any number.
 use mathlib.Core.Path.{◌≡◌, refl, sym, ◌∙◌, ap}
 use mathlib.Core.Bool.{Bool, true, false, cond}
 use mathlib.Core.List.{List}
 use Prim.Native.Nat.{ℕ, ◌<◌}
 use borrow.Author.Tests.{ltb-true}
 use lib.Dec.{ltb}
-use lib.ListN.{length, get_or, set}
-use Rattle.text.specs.Logic.{cond_cases, clash}
+use lib.ListN.{length, set}
+use Rattle.std.specs.Prelude.{Result, Ok, Err}
+use Rattle.text.specs.Logic.{clash}
 use Rattle.text.specs.Answers.{gives, refuses, answer_and_then}
 use Rattle.packet.specs.Packet.{packet_of}
 use Rattle.events.specs.declared.Entry.{Entry}
 use Rattle.events.specs.declared.New.{New}
 use Rattle.events.specs.declared.Refusal.{Refusal}
 use Rattle.events.specs.declared.Refusal.TheVariants.{NotAbove, Full}
-use Rattle.events.specs.declared.checks.Checked.{Checked}
-use Rattle.events.specs.declared.checks.Checked.TheVariants as passed
-use Rattle.events.specs.declared.plans.Candidates.{Candidates}
-use Rattle.events.specs.declared.plans.Plan.{Plan}
-use Rattle.events.specs.declared.plans.Plan.TheVariants.{Store, Refused}
-use Rattle.events.specs.Table.{blank, index_of, free_index, position_of, renewed, fresh, Outcome, outcome, again, anew, table_outcome, checked, answered, received, refusal_number}
-use Rattle.events.specs.Steps.{checked_answer, scanned, position_in, decided}
-
--- ---- where an event stands
-
-pub position_is :
-    (key event : ℕ) (es : List Entry) (i : ℕ) → i ≡ index_of key event es → (n : ℕ) → length es ≡ n → position_in i n ≡ position_of key event es
-unfolding position_of
-position_is key event es i e n long = rw (long, e)
+use Rattle.events.specs.Table.{Outcome, outcome, again, anew, table_outcome, checked, answered, received, refusal_number}
+use Rattle.events.specs.Steps.{checked_answer, decided}
 
 -- an outcome as its answer and its entries
 pub answer_and_entries : {o q : Outcome} → o ≡ q → (o.answer ≡ q.answer) × (o.entries ≡ q.entries)
 answer_and_entries e = (ap (λ (o : Outcome). o.answer) e, ap (λ (o : Outcome). o.entries) e)
 
--- ---- the plan
+-- a decision carried out
+abbrev pub carried_out : Result (ℕ × Entry) Refusal → List Entry → Outcome
+carried_out (Ok p) es = outcome (gives tt) (set es p.0 p.1)
+carried_out (Err r) es = outcome (refuses (refusal_number r) 0) es
 
--- a plan carried out
-abbrev pub carried_out : Plan → List Entry → Outcome
-carried_out (Store i e) es = outcome (gives tt) (set es i e)
-carried_out (Refused r) es = outcome (refuses (refusal_number r) 0) es
+module _ (es : List Entry) (new : New) where
+  carried_cases : (k j : ℕ) (x y : Entry) (t u w : Bool)
+      → carried_out (cond t (cond u (Ok (k, x)) (Err NotAbove)) (cond w (Ok (j, y)) (Err Full))) es
+      ≡ cond t (cond u (outcome (gives tt) (set es k x)) (outcome (refuses 10 0) es)) (cond w (outcome (gives tt) (set es j y)) (outcome (refuses 11 0) es))
+  carried_cases k j x y true true w = refl
+  carried_cases k j x y true false w = refl
+  carried_cases k j x y false u true = refl
+  carried_cases k j x y false u false = refl
 
-carried_cases : (es : List Entry) (k j : ℕ) (x y : Entry) (t u w : Bool)
-    → carried_out (cond t (cond u (Store k x) (Refused NotAbove)) (cond w (Store j y) (Refused Full))) es
-    ≡ cond t (cond u (outcome (gives tt) (set es k x)) (outcome (refuses 10 0) es)) (cond w (outcome (gives tt) (set es j y)) (outcome (refuses 11 0) es))
-carried_cases es k j x y true true w = refl
-carried_cases es k j x y true false w = refl
-carried_cases es k j x y false u true = refl
-carried_cases es k j x y false u false = refl
-
-module _ (es : List Entry) (new : New) (s : Candidates) (e : s ≡ scanned new.key new.event es) (n : ℕ) (long : length es ≡ n) (p : Plan)
-    (q : p ≡ decided s n new) where
-  pub carried_is : carried_out p es ≡ table_outcome new es
+  pub carried_is : carried_out (decided new es) es ≡ table_outcome new es
   unfolding decided table_outcome again anew
-  carried_is =
-      rw (q, e, ← long)
-      (carried_cases es (index_of new.key new.event es) (free_index es) (renewed new (get_or es (index_of new.key new.event es) blank)) (fresh new)
-      (ltb (index_of new.key new.event es) (length es)) (ltb (get_or es (index_of new.key new.event es) blank).sequence new.sequence)
-      (ltb (free_index es) (length es)))
+  carried_is = carried_cases _ _ _ _ _ _ _
 
-  pub stored_is : (i : ℕ) (x : Entry) → p ≡ Store i x → outcome (gives tt) (set es i x) ≡ table_outcome new es
-  stored_is i x r = ap (λ (o : Plan). carried_out o es) (sym r) ∙ carried_is
+  pub stored_is : (i : ℕ) (x : Entry) → decided new es ≡ Ok (i, x) → outcome (gives tt) (set es i x) ≡ table_outcome new es
+  stored_is i x e = sym (ap (λ (r : Result (ℕ × Entry) Refusal). carried_out r es) e) ∙ carried_is
 
-  pub refused_is : (r : Refusal) → p ≡ Refused r → outcome (refuses (refusal_number r) 0) es ≡ table_outcome new es
-  refused_is r h = ap (λ (o : Plan). carried_out o es) (sym h) ∙ carried_is
+  pub refused_is : (r : Refusal) → decided new es ≡ Err r → outcome (refuses (refusal_number r) 0) es ≡ table_outcome new es
+  refused_is r e = sym (ap (λ (d : Result (ℕ × Entry) Refusal). carried_out d es) e) ∙ carried_is
 
--- an entry is stored within the entries
-abbrev pub Within : ℕ → Plan → Type 0
-Within n p = (i : ℕ) (x : Entry) → p ≡ Store i x → i < n
+  -- where a decision stores
+  index_in_it : Result (ℕ × Entry) Refusal → ℕ
+  index_in_it (Ok p) = p.0
+  index_in_it (Err r) = 0
 
-pub store_within : (s : Candidates) (n : ℕ) (new : New) → Within n (decided s n new)
-unfolding decided
-store_within s n new =
-    cond_cases (Within n) (ltb s.known n) _ _
-    (λ t. cond_cases (Within n) (ltb s.entry.sequence new.sequence) _ _
-    (λ _ i x e. let q : s.known ≡ i = cc in rw (← q) (ltb-true s.known n t)) (λ _ i x e. clash (cc)))
-    (λ _. cond_cases (Within n) (ltb s.free n) _ _
-    (λ t i x e. let q : s.free ≡ i = cc in rw (← q) (ltb-true s.free n t)) (λ _ i x e. clash (cc)))
+  -- it is within the entries
+  pub store_within : (i : ℕ) (x : Entry) → decided new es ≡ Ok (i, x) → i < length es
+  unfolding decided index_in_it
+  store_within i x = cases _ _ _ _ (ltb _ (length es)) _ (ltb _ (length es)) refl refl
+    where
+      cases : (k j : ℕ) (y z : Entry) (t u w : Bool) → ltb k (length es) ≡ t → ltb j (length es) ≡ w
+          → ◌≡◌ {A = Result (ℕ × Entry) Refusal} (cond t (cond u (Ok (k, y)) (Err NotAbove)) (cond w (Ok (j, z)) (Err Full))) (Ok (i, x)) → i < length es
+      cases k j y z true true w e f g = let q : k ≡ i = ap index_in_it g in rw (← q) (ltb-true k (length es) e)
+      cases k j y z true false w e f g = clash (cc)
+      cases k j y z false u true e f g = let q : j ≡ i = ap index_in_it g in rw (← q) (ltb-true j (length es) f)
+      cases k j y z false u false e f g = clash (cc)
 
--- ---- what is received, by what was checked
-
-module _ (es : List Entry) (p keys : List ℕ) (verdict : Bool) (clock : ℕ) (c : Checked) (e : checked_answer c ≡ answer_and_then (packet_of p) (checked keys verdict clock)) where
+-- what is received, by what was checked
+module _ (es : List Entry) (p keys : List ℕ) (verdict : Bool) (clock : ℕ) (c : Result New Refusal)
+    (e : checked_answer c ≡ answer_and_then (packet_of p) (checked keys verdict clock)) where
   pub received_is : answered es (checked_answer c) ≡ received es p keys verdict clock
   unfolding received
   received_is = ap (answered es) e
-
-  pub received_passed : (new : New) → c ≡ passed.Passed new → table_outcome new es ≡ received es p keys verdict clock
-  received_passed new q = ap (λ (x : Checked). answered es (checked_answer x)) (sym q) ∙ received_is
-
-  pub received_refused : (r : Refusal) → c ≡ passed.Refused r → outcome (refuses (refusal_number r) 0) es ≡ received es p keys verdict clock
-  received_refused r q = ap (λ (x : Checked). answered es (checked_answer x)) (sym q) ∙ received_is

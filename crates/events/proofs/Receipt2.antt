@@ -9,6 +9,7 @@ use borrow.Author.Tests.{ltb-true, ltb-false, lt-ltb, le-ltb, not-false}
 use lib.Dec.{ltb}
 use lib.ListN.{length, get_or, set, length-set}
 use lib.Seq.{get_or-set_same, get_or-set_other}
+use Rattle.std.specs.Prelude.{Result}
 use Rattle.text.specs.Logic.{by_test, cond_cases, clash}
 use Rattle.text.specs.Answers.{Answer, gives, refuses, answer_and_then, answer_number}
 use Rattle.packet.specs.declared.Fields.{Fields}
@@ -17,7 +18,7 @@ use Rattle.packet.proofs.Acceptance.{refusal_numbers}
 use Rattle.packet.proofs.Widths.{sequence_lt}
 use Rattle.events.specs.declared.Entry.{Entry}
 use Rattle.events.specs.declared.New.{New as Item}
-use Rattle.events.specs.declared.Receipt.{Receipt}
+use Rattle.events.specs.declared.Refusal.{Refusal}
 use Rattle.events.specs.Table.{blank, is_of, is_free, index_of, free_index, new_of, renewed, fresh, Outcome, outcome, again, anew, table_outcome, is_clock_out_of_range, is_listed, checked, answered, received, receipt_answer}
 use Rattle.events.specs.Demand2.{OnlyAt, FirstAt, NoneOf, Call, Passes, Known, New, Stored, in_entry, in_free, Demand2, answer_of}
 use Rattle.events.proofs.Search.{index_is, index_none, first_at, none_of}
@@ -201,7 +202,7 @@ module _ (es : List Entry) (p keys : List ℕ) (verdict : Bool) (clock : ℕ) (a
 
 module _ (es : List Entry) (p keys : List ℕ) (verdict : Bool) (clock : ℕ) (fs : List Entry) (left : fs ≡ (received es p keys verdict clock).entries) where
   -- `receive`: the table of 64 by value
-  pub receive_demand_2 : (r : Receipt) → receipt_answer r ≡ (received es p keys verdict clock).answer → Demand2 es p keys verdict clock (receipt_answer r) fs
+  pub receive_demand_2 : (r : Result Prim.Unit Refusal) → receipt_answer r ≡ (received es p keys verdict clock).answer → Demand2 es p keys verdict clock (receipt_answer r) fs
   receive_demand_2 r e = demand_2 es p keys verdict clock (receipt_answer r) fs (record { answer = e; entries = left })
 
   number_answer : (a : Answer Prim.Unit) → ((n at : ℕ) → a ≡ refuses n at → (1 ≤ n) × (at ≡ 0)) → answer_of (answer_number a) ≡ a

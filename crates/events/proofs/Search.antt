@@ -1,20 +1,20 @@
--- Laws of the first entry that passes a test, of one pass over the entries, and of the key list.
+-- Laws of the first entry that passes a test, and of the key list.
 use mathlib.Core.Path.{◌≡◌, refl, sym, ◌∙◌, ap}
 use mathlib.Core.Bool.{Bool, true, false, cond, false≢true}
-use mathlib.Core.List.{List, [], ◌∷◌, ◌++◌}
-use Prim.Native.Nat.{ℕ, zero, suc, ◌+◌, ◌≤◌, ◌<◌, zero-le, suc-le-suc}
-use native.Mathlib.Nat.{le_of_suc-le-suc, not-suc-le-zero, zero-add}
-use native.Mathlib.Numerals.{add-one}
+use mathlib.Core.Logic.{◌⊎◌, inl, inr}
+use mathlib.Core.List.{List, [], ◌∷◌}
+use Prim.Native.Nat.{ℕ, zero, suc, ◌≤◌, ◌<◌, zero-le, suc-le-suc}
+use native.Mathlib.Nat.{le_of_suc-le-suc, not-suc-le-zero}
 use native.Mathlib.Omega.{arith}
-use borrow.Author.Tests.{ltb-true, ltb-false, lt-ltb, le-ltb}
+use borrow.Author.Tests.{ltb-true, ltb-false}
 use lib.Dec.{ltb, eqb}
-use lib.ListN.{length, get_or, take, drop, set, drop_of_length-le, length-append, get_or-append, get_or-eq_default}
-use lib.Seq.{drop-cons, take-suc, take_all, length-take-le, get_or-append_seam}
+use lib.ListN.{length, get_or, set}
+use Rattle.std.specs.Prelude.{Some, None}
+use Rattle.std.specs.Option.{unwrap_or}
+use Rattle.std.specs.List.{position, position_or_len, list_any}
 use Rattle.text.specs.Logic.{by_test}
 use Rattle.events.specs.declared.Entry.{Entry}
-use Rattle.events.specs.declared.plans.Candidates.{Candidates}
-use Rattle.events.specs.Table.{blank, first_index, is_of, is_free, is_listed}
-use Rattle.events.specs.Steps.{scanned, next_index, next_entry, scan_step}
+use Rattle.events.specs.Table.{blank, is_of, is_free, first_index, index_of, free_index, position_of, is_listed}
 use Rattle.events.specs.Demand2.{FirstAt, NoneOf}
 
 -- ---- the first index
@@ -92,101 +92,46 @@ module _ (f : Entry → Bool) where
       (ltb-true (first_index f es) (length es))
       (λ t. absurd (false≢true (sym (none_of es (ltb-false (first_index f es) (length es) t) k h) ∙ e)))
 
-  -- a search that has passed the first i entries: what is left to find is the first of the others
-  abbrev pub Passed : List Entry → ℕ → Type 0
-  Passed es i = first_index f es ≡ i + first_index f (drop i es)
-
-  module _ (es : List Entry) where
-    pub passed_none : Passed es 0
-    passed_none = sym (zero-add _)
-
-    module _ (i : ℕ) (so_far : Passed es i) where
-      pub passed_here : i < length es → f (get_or es i blank) ≡ true → i ≡ first_index f es
-      unfolding first_index
-      passed_here h e = sym (so_far ∙ rw (drop-cons es i blank h, e) (omega arith))
-
-      pub passed_on : i < length es → f (get_or es i blank) ≡ false → Passed es (i + 1)
-      unfolding first_index
-      passed_on h e = so_far ∙ rw (drop-cons es i blank h, e, add-one i) (omega arith)
-
-      pub passed_all : length es ≤ i → i ≡ first_index f es
-      unfolding first_index
-      passed_all h = sym (so_far ∙ rw (drop_of_length-le es h) (omega arith))
-
-  next_suc : (k n : ℕ) (t : Bool) → suc (next_index k n (n + 1) t) ≡ next_index (suc k) (suc n) (suc n + 1) t
-  next_suc k n t = cases (ltb k n) t refl
-    where
-      cases : (y t' : Bool) → ltb k n ≡ y → suc (cond y k (cond t' n (n + 1))) ≡ next_index (suc k) (suc n) (suc n + 1) t'
-      cases true t' e = let h : suc k < suc n = omega (arith, ltb-true k n e) in simp (lt-ltb _ _ h)
-      cases false true e = let h : suc n ≤ suc k = omega (arith, ltb-false k n e) in simp (le-ltb _ _ h)
-      cases false false e = let h : suc n ≤ suc k = omega (arith, ltb-false k n e) in simp (le-ltb _ _ h) (omega arith)
-
-  -- one entry more
-  index_snoc : (es : List Entry) (e : Entry) → first_index f (es ++ (e ∷ [])) ≡ next_index (first_index f es) (length es) (length es + 1) (f e)
+  -- the library's words for it
+  first_or_len : (es : List Entry) → position_or_len f es ≡ first_index f es
   unfolding first_index
-  index_snoc [] e = refl
-  index_snoc (b ∷ es) e = cases (f b) (index_snoc es e)
-    where
-      cases : (t : Bool) → first_index f (es ++ (e ∷ [])) ≡ next_index (first_index f es) (length es) (length es + 1) (f e)
-          → cond t 0 (suc (first_index f (es ++ (e ∷ [])))) ≡ next_index (cond t 0 (suc (first_index f es))) (suc (length es)) (suc (length es) + 1)
-          (f e)
-      cases true p = let h : 0 < suc (length es) = omega arith in simp (lt-ltb _ _ h)
-      cases false p = ap suc p ∙ next_suc (first_index f es) (length es) (f e)
+  first_or_len [] = refl
+  first_or_len (e ∷ es) = by_test (f e) (λ t. rw t) (λ t. rw t (omega (arith, first_or_len es)))
 
-entry_snoc : (es : List Entry) (e : Entry) (k : ℕ) (t : Bool)
-    → get_or (es ++ (e ∷ [])) (next_index k (length es) (length es + 1) t) blank ≡ next_entry k (length es) t (get_or es k blank) e
-entry_snoc es e k t = cases (ltb k (length es)) t refl
-  where
-    cases : (y t' : Bool) → ltb k (length es) ≡ y
-        → get_or (es ++ (e ∷ [])) (cond y k (cond t' (length es) (length es + 1))) blank ≡ cond y (get_or es k blank) (cond t' e blank)
-    cases true t' p = get_or-append es (e ∷ []) blank k (ltb-true k (length es) p)
-    cases false true p = get_or-append_seam es e [] blank
-    cases false false p = get_or-eq_default (es ++ (e ∷ [])) blank (rw (length-append es (e ∷ [])) (omega arith))
+  pub first_position : (es : List Entry) → position f es ≡ cond (ltb (first_index f es) (length es)) (Some (first_index f es)) None
+  first_position es = rw (first_or_len es)
 
--- ---- one pass over the entries
+-- an event's entry that was found, or none
+pub found : (key event : ℕ) (es : List Entry)
+    → (position_of key event es ≡ position_of key event es)
+    × (((index_of key event es < length es) × (position_of key event es ≡ Some (index_of key event es)))
+    ⊎ ((length es ≤ index_of key event es) × (position_of key event es ≡ None)))
+unfolding position_of
+found key event es =
+    let k = index_of key event es in
+    by_test (ltb k (length es)) (λ t. (refl, inl (ltb-true k (length es) t, rw t))) (λ t. (refl, inr (ltb-false k (length es) t, rw t)))
 
-scanned_snoc :
-    (key event : ℕ) (es : List Entry) (e : Entry) → scanned key event (es ++ (e ∷ [])) ≡ scan_step (scanned key event es) e (length es)
-    (length es + 1) key event
-scanned_snoc key event es e =
-    rw (index_snoc (is_of key event) es e, index_snoc is_free es e) (ap (λ (x : Entry). record {
-      known = next_index (first_index (is_of key event) es) (length es) (length es + 1) (is_of key event e);
-      free = next_index (first_index is_free es) (length es) (length es + 1) (is_free e);
-      entry = x;
-    }) (entry_snoc es e (first_index (is_of key event) es) (is_of key event e)))
+-- or else the number of entries
+pub found_or_all : (key event : ℕ) (es : List Entry) → unwrap_or (position_of key event es) (length es) ≡ index_of key event es
+unfolding position_of
+found_or_all key event es =
+    let f = is_of key event in
+    let k = first_index f es in
+    by_test (ltb k (length es)) (λ t. rw t) (λ t. rw t (omega (arith, index_le f es, ltb-false k (length es) t)))
 
-module _ (key event : ℕ) (es : List Entry) where
-  pub scanned_none : scanned 0 0 [] ≡ scanned key event (take 0 es)
-  unfolding first_index
-  scanned_none = refl
+pub found_free : (es : List Entry)
+    → (position is_free es ≡ position is_free es)
+    × (((free_index es < length es) × (position is_free es ≡ Some (free_index es)))
+    ⊎ ((length es ≤ free_index es) × (position is_free es ≡ None)))
+found_free es =
+    let k = free_index es in
+    by_test (ltb k (length es))
+    (λ t. (refl, inl (ltb-true k (length es) t, first_position is_free es ∙ rw t)))
+    (λ t. (refl, inr (ltb-false k (length es) t, first_position is_free es ∙ rw t)))
 
-  scanned_more :
-      (i : ℕ) → i < length es → scanned key event (take (i + 1) es) ≡ scan_step (scanned key event (take i es)) (get_or es i blank) i (i + 1) key event
-  scanned_more i h =
-      ap (scanned key event) (ap (λ (j : ℕ). take j es) (add-one i) ∙ take-suc es i blank h)
-      ∙ (scanned_snoc key event (take i es) (get_or es i blank)
-      ∙ ap (λ (n : ℕ). scan_step (scanned key event (take i es)) (get_or es i blank) n (n + 1) key event) (length-take-le i es (omega arith)))
+-- ---- the key list
 
-  -- a step from what is found among the first i entries
-  pub scanned_next :
-      (i : ℕ) → i < length es → (s r : Candidates) → s ≡ scanned key event (take i es) → r ≡ scan_step s (get_or es i blank) i (i + 1) key event
-      → r ≡ scanned key event (take (i + 1) es)
-  scanned_next i h s r a b = b ∙ (rw a (sym (scanned_more i h)))
-
-  pub scanned_all : (i : ℕ) → length es ≤ i → (s : Candidates) → s ≡ scanned key event (take i es) → s ≡ scanned key event es
-  scanned_all i h s a = a ∙ (rw (take_all i es h))
-
--- ---- the key list, from an index on
-
-module _ (keys : List ℕ) (key i : ℕ) where
-  pub listed_here : i < length keys → eqb (get_or keys i 0) key ≡ true → is_listed (drop i keys) key ≡ true
-  unfolding is_listed
-  listed_here h e = rw (drop-cons keys i 0 h, e)
-
-  pub listed_on : i < length keys → eqb (get_or keys i 0) key ≡ false → is_listed (drop i keys) key ≡ is_listed (drop (i + 1) keys) key
-  unfolding is_listed
-  listed_on h e = rw (drop-cons keys i 0 h, e, add-one i)
-
-  pub listed_end : length keys ≤ i → is_listed (drop i keys) key ≡ false
-  unfolding is_listed
-  listed_end h = rw (drop_of_length-le keys h)
+pub listed_any : (keys : List ℕ) (key : ℕ) → list_any (λ k. eqb k key) keys ≡ is_listed keys key
+unfolding is_listed
+listed_any [] key = refl
+listed_any (k ∷ keys) key = by_test (eqb k key) (λ t. rw t) (λ t. rw t (listed_any keys key))

@@ -89,3 +89,6 @@ module _ (time : ℕ) (es : List Entry) where
     pub swept_to_next :
         (fs : List Entry) (x : Entry) → fs ≡ swept_to time es i → x ≡ swept time (get_or fs i blank) → set fs i x ≡ swept_to time es (i + 1)
     swept_to_next fs x a b = rw (b, a, next_at) next_set
+
+-- what the loop needs: the start, a turn and the end
+pub ruleset sweep_steps = (swept_to_none, swept_to_next, swept_to_all)

@@ -1,11 +1,10 @@
 -- The running events (document 02, [7]): "A new answer lists, in table order, key id and event of each event whose first used entry is uncancelled, with
 -- timestamp at or before a given time and expiry after it.", over a run of entries of any length and content.
-use Rattle.std.specs.Prelude.{Bool, cond, not, ◌&&◌, List, [], ◌∷◌, ◌++◌, ℕ, zero, suc, eqb, leb, ltb, length, get_or}
+use Rattle.std.specs.Prelude.{Bool, cond, not, ◌&&◌, Result, Ok, Err, List, [], ◌∷◌, ◌++◌, ℕ, zero, suc, eqb, leb, ltb, length, get_or}
 use Rattle.text.specs.Answers.{Answer, gives, refuses}
 use Rattle.events.specs.declared.Entry.{Entry}
 use Rattle.events.specs.declared.EventId.{EventId}
-use Rattle.events.specs.declared.ListRunning.{ListRunning}
-use Rattle.events.specs.declared.ListRunning.TheVariants.{Count, NoRoom}
+use Rattle.events.specs.declared.NoRoom.{NoRoom}
 use Rattle.events.specs.Table.{is_set, blank, index_of}
 
 -- "key id and event"
@@ -36,6 +35,6 @@ running_to time es (suc n) = running_to time es n ++ cond (runs_at time es n) (e
 unfoldable pub running : ℕ → List Entry → List EventId
 running time es = running_to time es (length es)
 
-abbrev pub list_answer : ListRunning → Answer ℕ
-list_answer (Count n) = gives n
-list_answer NoRoom = refuses 24 0
+abbrev pub list_answer : Result ℕ NoRoom → Answer ℕ
+list_answer (Ok n) = gives n
+list_answer (Err e) = refuses 24 0

@@ -1,5 +1,5 @@
 -- The event table (document 01, "The event table" and "Refusal numbers"), over a run of entries of any length and content.
-use Rattle.std.specs.Prelude.{Bool, true, false, cond, not, ◌&&◌, List, [], ◌∷◌, ℕ, suc, ◌+◌, eqb, ltb, length, get_or, set}
+use Rattle.std.specs.Prelude.{Bool, true, false, cond, not, ◌&&◌, Option, Some, None, Result, Ok, Err, List, [], ◌∷◌, ℕ, suc, ◌+◌, eqb, ltb, length, get_or, set}
 use mir.Val.{bool_byte}
 use Rattle.text.specs.Answers.{Answer, gives, refuses, answer_and_then}
 use Rattle.packet.specs.declared.Fields.{Fields}
@@ -8,10 +8,6 @@ use Rattle.events.specs.declared.Entry.{Entry}
 use Rattle.events.specs.declared.New.{New}
 use Rattle.events.specs.declared.Refusal.{Refusal}
 use Rattle.events.specs.declared.Refusal.TheVariants.{ClockOutOfRange, UnknownKey, Unverified, NotAbove, Full, Packet}
-use Rattle.events.specs.declared.Receipt.{Receipt}
-use Rattle.events.specs.declared.Receipt.TheVariants.{Accepted, Refused}
-use Rattle.events.specs.declared.Position.{Position}
-use Rattle.events.specs.declared.Position.TheVariants.{At, Nowhere}
 
 -- ---- entries
 
@@ -43,8 +39,8 @@ index_of key event es = first_index (is_of key event) es
 abbrev pub free_index : List Entry → ℕ
 free_index es = first_index is_free es
 
-unfoldable pub position_of : ℕ → ℕ → List Entry → Position
-position_of key event es = cond (ltb (index_of key event es) (length es)) (At (index_of key event es)) Nowhere
+unfoldable pub position_of : ℕ → ℕ → List Entry → Option ℕ
+position_of key event es = cond (ltb (index_of key event es) (length es)) (Some (index_of key event es)) None
 
 -- ---- acceptance
 
@@ -148,9 +144,9 @@ refusal_number NotAbove = 10
 refusal_number Full = 11
 refusal_number (Packet e) = fault_number e
 
-abbrev pub receipt_answer : Receipt → Answer Prim.Unit
-receipt_answer Accepted = gives tt
-receipt_answer (Refused r) = refuses (refusal_number r) 0
+abbrev pub receipt_answer : Result Prim.Unit Refusal → Answer Prim.Unit
+receipt_answer (Ok u) = gives tt
+receipt_answer (Err r) = refuses (refusal_number r) 0
 
 -- ---- "Sweeping at a time frees exactly the used entries whose keep-until is below it, touching only their used mark.";
 -- "sweeping still looks at keep-until only" (document 02, [7])

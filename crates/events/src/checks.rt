@@ -6,14 +6,7 @@ ghost use Rattle.events.specs.Table.{new_of, is_listed, checked};
 ghost use Rattle.events.specs.Steps.{checked_answer};
 
 use crate::{New, Refusal};
-use packet::{Fields, Packet};
-
-// What the checks come to: what the packet stores, or why it is refused.
-#[derive(Clone, Copy)]
-pub enum Checked {
-    Passed(New),
-    Refused(Refusal),
-}
+use packet::Fields;
 
 // The last clock at which a packet is taken: 2^64 - 65,536.
 const LAST_CLOCK: u64 = 18_446_744_073_709_486_080;
@@ -22,14 +15,7 @@ const LAST_CLOCK: u64 = 18_446_744_073_709_486_080;
 fn is_listed(keys: &[u32], key: u32) -> bool
     ensures { result ≡ is_listed keys.now key }
 {
-    let mut i: usize = 0;
-    while i < keys.len() {
-        if keys[i] == key {
-            return true;
-        }
-        i += 1;
-    }
-    false
+    keys.contains(&key)
 }
 
 // What a packet stores. The last clock is 2^64 - 65,536, so that the sum fits.
@@ -48,31 +34,20 @@ fn new_of(clock: u64, fields: Fields) -> New
     }
 }
 
-// The checks of a packet's fields.
+// What a packet stores that passes its own checks and then those of the clock, the key and the verdict; or why it is refused.
 #[tactic(auto, unfolding(crate::specs::Table::checked))]
-fn check_fields(fields: Fields, keys: &[u32], verdict: bool, clock: u64) -> Checked
-    ensures { checked_answer result ≡ checked keys.now verdict clock fields }
-{
-    if LAST_CLOCK < clock {
-        return Checked::Refused(Refusal::ClockOutOfRange);
-    }
-    let listed = is_listed(keys, fields.key);
-    if !listed {
-        return Checked::Refused(Refusal::UnknownKey);
-    }
-    if !verdict {
-        return Checked::Refused(Refusal::Unverified);
-    }
-    Checked::Passed(new_of(clock, fields))
-}
-
-// A packet's own checks, then those of its fields.
-pub fn check(packet: &[u8], keys: &[u32], verdict: bool, clock: u64) -> Checked
+pub fn check(packet: &[u8], keys: &[u32], verdict: bool, clock: u64) -> Result<New, Refusal>
     ensures { checked_answer result ≡ answer_and_then (packet_of packet.now) (checked keys.now verdict clock) }
 {
-    let read = packet::read_packet(packet);
-    match read {
-        Packet::Refused(fault) => Checked::Refused(Refusal::Packet(fault)),
-        Packet::Alert(fields) => check_fields(fields, keys, verdict, clock),
+    let fields = packet::read_packet(packet)?;
+    if LAST_CLOCK < clock {
+        return Err(Refusal::ClockOutOfRange);
     }
+    if !is_listed(keys, fields.key) {
+        return Err(Refusal::UnknownKey);
+    }
+    if !verdict {
+        return Err(Refusal::Unverified);
+    }
+    Ok(new_of(clock, fields))
 }

@@ -2,60 +2,22 @@
 
 #![tactic(auto)]
 
-ghost use Rattle.io.specs.Counts.{IsPrefixLen};
+ghost use Rattle.std.specs.Prelude.{◌≤◌, length, IfOk};
 
 use std::io::{Read, Result};
 
-// How reading ended: with the input, with a full buffer and more of the input behind it, or with a read that failed.
-#[derive(Drop)]
-pub enum Ending {
-    Whole,
-    More,
-    Failed,
-}
-
-// How many bytes of the buffer were read, and how that ended.
-#[derive(Drop)]
-pub struct Input {
-    pub length: usize,
-    pub ending: Ending,
-}
-
-// How reading ended with a full buffer, by what one more read of a byte gave.
-fn ending_of(more: Result<usize>) -> Ending {
-    match more {
-        Ok(0) => Ending::Whole,
-        Ok(_) => Ending::More,
-        Err(_) => Ending::Failed,
-    }
-}
-
-// Reads the input. Of the bytes that come no contract can say more than how many they are.
-pub fn read_input<R: Read>(reader: &mut R, buffer: &mut [u8]) -> Input
-    ensures { IsPrefixLen result.length buffer.new }
+// Reads the input, or as much of it as the buffer has room for: a program that is to see whether there is more than it can take lends a buffer with
+// room for one byte more. Of the bytes that come no contract can say more than how many they are.
+pub fn read_input<'a, R: Read>(reader: &mut R, buffer: &'a mut [u8]) -> Result<&'a [u8]>
+    ensures { IfOk result (λ input. length input.now ≤ length buffer.old) }
 {
     let mut length = 0;
     while length < buffer.len() {
-        match reader.read(&mut buffer[length..]) {
-            Ok(0) => {
-                return Input {
-                    length,
-                    ending: Ending::Whole,
-                };
-            }
-            Ok(n) => length += n,
-            Err(_) => {
-                return Input {
-                    length,
-                    ending: Ending::Failed,
-                };
-            }
+        let n = reader.read(&mut buffer[length..])?;
+        if n == 0 {
+            break;
         }
+        length += n;
     }
-    let mut next = [0u8; 1];
-    let more = reader.read(&mut next);
-    Input {
-        length,
-        ending: ending_of(more),
-    }
+    Ok(&buffer[..length])
 }

@@ -6,6 +6,7 @@ use Prim.Native.Nat.{ℕ, ◌<◌}
 use native.Mathlib.Omega.{arith}
 use lib.Dec.{eqb, ltb, leb}
 use borrow.Author.Tests.{leb-true, lt-ltb, ne_eqb}
+use Rattle.std.specs.Prelude.{Option, Some, None}
 use Rattle.text.specs.Logic.{and_left, and_right, and_comm}
 use Rattle.text.specs.Answers.{gives}
 use Rattle.words.specs.Duration.{is_lasting}
@@ -13,11 +14,7 @@ use Rattle.codes.specs.declared.MessageType.{MessageType}
 use Rattle.codes.specs.declared.Status.{Status}
 use Rattle.codes.specs.declared.Scope.{Scope}
 use Rattle.codes.specs.declared.Urgency.{Urgency}
-use Rattle.sheet.specs.declared.Lasting.{Lasting}
-use Rattle.sheet.specs.declared.Lasting.TheVariants.{Unstated, Seconds}
 use Rattle.sheet.specs.declared.Part.{Part}
-use Rattle.sheet.specs.declared.Parts.{Parts}
-use Rattle.sheet.specs.declared.Parts.TheVariants.{NoPart, OnePart}
 use Rattle.sheet.specs.declared.CapFacts.{CapFacts}
 use Rattle.sheet.specs.declared.WarnFacts.{WarnFacts}
 use Rattle.sheet.specs.declared.Span.{Span}
@@ -37,12 +34,12 @@ use Rattle.numbers.proofs.Flags.{flag_is, flag_back}
 -- ---- CAP
 
 -- a part's facts fit their numbers
-unfoldable pub fits_numbers : Parts → Bool
-fits_numbers NoPart = true
-fits_numbers (OnePart p) = ltb p.number 0x100 && ltb p.total 0x100 && ltb (seconds_of p.lasting) 0x1_0000_0000
+unfoldable pub fits_numbers : Option Part → Bool
+fits_numbers None = true
+fits_numbers (Some p) = ltb p.number 0x100 && ltb p.total 0x100 && ltb (seconds_of p.lasting) 0x1_0000_0000
 
 part_tests :
-    (p : Part) → fits_numbers (OnePart p) ≡ true
+    (p : Part) → fits_numbers (Some p) ≡ true
     → (ltb p.number 0x100 ≡ true) × (ltb p.total 0x100 ≡ true) × (ltb (seconds_of p.lasting) 0x1_0000_0000 ≡ true)
 unfolding fits_numbers
 part_tests p e =
@@ -56,20 +53,20 @@ urgency_some t x =
     let some = leb-true 1 (urgency_number x) (and_left _ _ (urgency_numbers x).listed) in
     rw (ne_eqb (urgency_number x) 0 (λ z. omega arith), and_comm t false)
 
-lasting_are : (x : Lasting) → ltb (seconds_of x) 0x1_0000_0000 ≡ true → are_lasting (stated_of x) (seconds_of x) ≡ true
-lasting_are Unstated e = refl
-lasting_are (Seconds s) e = rw e
+lasting_are : (x : Option ℕ) → ltb (seconds_of x) 0x1_0000_0000 ≡ true → are_lasting (stated_of x) (seconds_of x) ≡ true
+lasting_are None e = refl
+lasting_are (Some s) e = rw e
 
-lasting_back : (x : Lasting) → lasting_from (stated_of x) (seconds_of x) ≡ x
-lasting_back Unstated = refl
-lasting_back (Seconds s) = refl
+lasting_back : (x : Option ℕ) → lasting_from (stated_of x) (seconds_of x) ≡ x
+lasting_back None = refl
+lasting_back (Some s) = refl
 
 -- by cases on the part
 module _ (x : MessageType) (y : Status) (z : Scope) (sender name : Span) where
-  parts_are : (p : Parts) → fits_numbers p ≡ true → are_cap (with_parts (message_number x) (status_number y) (scope_number z) sender name p) ≡ true
+  parts_are : (p : Option Part) → fits_numbers p ≡ true → are_cap (with_parts (message_number x) (status_number y) (scope_number z) sender name p) ≡ true
   unfolding are_cap are_part numbers_of_none numbers_of_part
-  parts_are NoPart e = rw ((message_numbers x).listed, (status_numbers y).listed, (scope_numbers z).listed)
-  parts_are (OnePart p) e =
+  parts_are None e = rw ((message_numbers x).listed, (status_numbers y).listed, (scope_numbers z).listed)
+  parts_are (Some p) e =
       let t = part_tests p e in
       rw (
         (message_numbers x).listed,
@@ -85,12 +82,12 @@ module _ (x : MessageType) (y : Status) (z : Scope) (sender name : Span) where
       )
 
   parts_back :
-      (p : Parts) → fits_numbers p ≡ true
+      (p : Option Part) → fits_numbers p ≡ true
       → cap_from (with_parts (message_number x) (status_number y) (scope_number z) sender name p)
       ≡ record { message = x; status = y; scope = z; parts = p }
   unfolding cap_from part_from numbers_of_none numbers_of_part
-  parts_back NoPart e = rw ((message_numbers x).back, (status_numbers y).back, (scope_numbers z).back)
-  parts_back (OnePart p) e =
+  parts_back None e = rw ((message_numbers x).back, (status_numbers y).back, (scope_numbers z).back)
+  parts_back (Some p) e =
       rw (
         (message_numbers x).back,
         (status_numbers y).back,
@@ -103,12 +100,12 @@ module _ (x : MessageType) (y : Status) (z : Scope) (sender name : Span) where
       )
 
   spans_back :
-      (p : Parts)
+      (p : Option Part)
       → (sender_from (with_parts (message_number x) (status_number y) (scope_number z) sender name p) ≡ sender)
       × (name_from (with_parts (message_number x) (status_number y) (scope_number z) sender name p) ≡ name)
   unfolding numbers_of_none numbers_of_part
-  spans_back NoPart = (refl, refl)
-  spans_back (OnePart p) = (refl, refl)
+  spans_back None = (refl, refl)
+  spans_back (Some p) = (refl, refl)
 
 pub cap_back :
     (f : CapFacts) (sender name : Span) → fits_numbers f.parts ≡ true
@@ -124,15 +121,15 @@ cap_back f sender name e =
       spans.1,
     )
 
-seconds_fit : (x : Lasting) → is_lasting_time x ≡ true → seconds_of x < 0x1_0000_0000
-seconds_fit Unstated e = omega arith
-seconds_fit (Seconds s) e = let r = lasting_range s e in omega arith
+seconds_fit : (x : Option ℕ) → is_lasting_time x ≡ true → seconds_of x < 0x1_0000_0000
+seconds_fit None e = omega arith
+seconds_fit (Some s) e = let r = lasting_range s e in omega arith
 
 -- the part of each sheet in range fits
-pub range_fits : (p : Parts) → is_parts p ≡ true → fits_numbers p ≡ true
+pub range_fits : (p : Option Part) → is_parts p ≡ true → fits_numbers p ≡ true
 unfolding is_parts fits_numbers
-range_fits NoPart e = refl
-range_fits (OnePart p) e =
+range_fits None e = refl
+range_fits (Some p) e =
     let passed = joined_at true (leb 1 p.number ∷ leb p.number p.total ∷ leb p.total 16 ∷ is_lasting_time p.lasting ∷ []) e in
     let within = leb-true p.number p.total (passed 1) in
     let few = leb-true p.total 16 (passed 2) in

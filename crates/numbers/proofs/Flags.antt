@@ -5,13 +5,7 @@ use Prim.Native.Nat.{ℕ, zero, suc}
 use native.Mathlib.Omega.{arith}
 use lib.Dec.{eqb}
 use borrow.Author.Tests.{leb-true}
-use mir.Val.{bool_byte}
 use Rattle.numbers.specs.Numbers.{of_flag, is_flag}
-
--- a `bool` as a number
-pub flag_byte : (b : Bool) → bool_byte b ≡ of_flag b
-flag_byte true = refl
-flag_byte false = refl
 
 pub flag_is : (b : Bool) → is_flag (of_flag b) ≡ true
 flag_is true = refl

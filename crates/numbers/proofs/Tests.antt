@@ -7,10 +7,23 @@ use native.Mathlib.Omega.{arith}
 use lib.Dec.{eqb, ltb}
 use lib.ListN.{get_or}
 use borrow.Author.Tests.{eqb-true, ltb-true}
+use Rattle.std.specs.Prelude.{Option, Some, None, cond}
 use Rattle.text.specs.Logic.{by_test, and_left, and_right}
 use Rattle.codes.specs.Lists as list
 use Rattle.codes.specs.Lists.{is_number}
 use Rattle.numbers.specs.Numbers.{at, is_flag, has_no_part, are_lasting, are_part, are_cap, lasting_from, are_warn, stated_of, seconds_of}
+
+-- ---- a value that was found by a test
+
+pub record Stands {A : Type 0} (b : Bool) (x y : A) : Type 0 where
+  pub passes : b ≡ true
+  pub value : y ≡ x
+
+pub stands : {A : Type 0} {b : Bool} {x y : A} {o : Option A} → o ≡ cond b (Some x) None → o ≡ Some y → Stands b x y
+stands {b} {x} {y} e f =
+    by_test b
+    (λ p. let q = rw p at e in record { passes = p; value = cc })
+    (λ p. let q = rw p at e in cc)
 
 -- ---- many tests, one after the other
 

@@ -4,20 +4,14 @@
 --   WARN: the flags urgent, update, cancel, test, then event, number, origin, lasting time, hazard, kind, urgency, severity, certainty, response
 -- CAP codes are numbered from 1 in the order of the schema's lists; a fact that is or isn't so is 1 or 0.
 -- Each sheet has one form: the numbers that stand for it are its numbers (proofs/OneForm.antt).
-use Rattle.std.specs.Prelude.{Bool, true, false, cond, ◌&&◌, ◌||◌, List, [], ◌∷◌, ℕ, eqb, leb, ltb, get_or}
+use Rattle.std.specs.Prelude.{Option, Some, None, Bool, true, false, cond, ◌&&◌, ◌||◌, List, [], ◌∷◌, ℕ, eqb, leb, ltb, get_or}
 use Rattle.text.specs.Answers.{Answer, gives, refuses}
-use Rattle.sheet.specs.declared.Lasting.{Lasting}
-use Rattle.sheet.specs.declared.Lasting.TheVariants.{Unstated, Seconds}
 use Rattle.sheet.specs.declared.Part.{Part}
-use Rattle.sheet.specs.declared.Parts.{Parts}
-use Rattle.sheet.specs.declared.Parts.TheVariants.{NoPart, OnePart}
 use Rattle.sheet.specs.declared.CapFacts.{CapFacts}
 use Rattle.sheet.specs.declared.WarnFacts.{WarnFacts}
 use Rattle.sheet.specs.declared.Span.{Span}
 use Rattle.sheet.specs.declared.Found.{Found}
 use Rattle.sheet.specs.declared.Found.TheVariants as found
-use Rattle.numbers.specs.declared.NumbersSheet.{NumbersSheet}
-use Rattle.numbers.specs.declared.NumbersSheet.TheVariants.{Sheet, NotSheet}
 use Rattle.codes.specs.Lists as list
 use Rattle.codes.specs.Lists.{is_number}
 use Rattle.codes.specs.Values.{message_at, status_at, scope_at, urgency_at, severity_at, certainty_at}
@@ -52,8 +46,8 @@ unfoldable pub are_cap : List ℕ → Bool
 are_cap n =
     eqb (at n 0) 1 && is_number list.msg_type (at n 1) && is_number list.status (at n 2) && is_number list.scope (at n 3) && (has_no_part n || are_part n)
 
-abbrev pub lasting_from : ℕ → ℕ → Lasting
-lasting_from stated seconds = cond (eqb stated 1) (Seconds seconds) Unstated
+abbrev pub lasting_from : ℕ → ℕ → Option ℕ
+lasting_from stated seconds = cond (eqb stated 1) (Some seconds) None
 
 unfoldable pub part_from : List ℕ → Part
 part_from n = record {
@@ -65,12 +59,15 @@ part_from n = record {
   lasting = lasting_from (at n 9) (at n 10);
 }
 
+abbrev pub parts_from : List ℕ → Option Part
+parts_from n = cond (has_no_part n) None (Some (part_from n))
+
 unfoldable pub cap_from : List ℕ → CapFacts
 cap_from n = record {
   message = message_at (at n 1);
   status = status_at (at n 2);
   scope = scope_at (at n 3);
-  parts = cond (has_no_part n) NoPart (OnePart (part_from n));
+  parts = parts_from n;
 }
 
 abbrev pub sender_from : List ℕ → Span
@@ -112,9 +109,9 @@ numbers_sheet n =
     (refuses 23 0))
 
 -- document 01's answer for each case
-abbrev pub sheet_answer : NumbersSheet → Answer Found
-sheet_answer (Sheet x) = gives x
-sheet_answer NotSheet = refuses 23 0
+abbrev pub sheet_answer : Option Found → Answer Found
+sheet_answer (Some x) = gives x
+sheet_answer None = refuses 23 0
 
 -- ---- the numbers of a sheet that was found in a text
 
@@ -122,13 +119,13 @@ abbrev pub of_flag : Bool → ℕ
 of_flag true = 1
 of_flag false = 0
 
-abbrev pub stated_of : Lasting → ℕ
-stated_of Unstated = 0
-stated_of (Seconds s) = 1
+abbrev pub stated_of : Option ℕ → ℕ
+stated_of None = 0
+stated_of (Some s) = 1
 
-abbrev pub seconds_of : Lasting → ℕ
-seconds_of Unstated = 0
-seconds_of (Seconds s) = s
+abbrev pub seconds_of : Option ℕ → ℕ
+seconds_of None = 0
+seconds_of (Some s) = s
 
 unfoldable pub numbers_of_none : (message status scope : ℕ) (sender name : Span) → List ℕ
 numbers_of_none m t c sender name =
@@ -140,9 +137,16 @@ numbers_of_part m t c sender name p =
     ∷ urgency_number p.urgency ∷ severity_number p.severity ∷ certainty_number p.certainty ∷ stated_of p.lasting ∷ seconds_of p.lasting
     ∷ sender.start ∷ sender.len ∷ name.start ∷ name.len ∷ []
 
-abbrev pub with_parts : (message status scope : ℕ) (sender name : Span) → Parts → List ℕ
-with_parts m t c sender name NoPart = numbers_of_none m t c sender name
-with_parts m t c sender name (OnePart p) = numbers_of_part m t c sender name p
+-- the fifth to the eleventh
+abbrev pub part_numbers : Option Part → List ℕ
+part_numbers None = 0 ∷ 0 ∷ 0 ∷ 0 ∷ 0 ∷ 0 ∷ 0 ∷ []
+part_numbers (Some p) =
+    p.number ∷ p.total
+    ∷ urgency_number p.urgency ∷ severity_number p.severity ∷ certainty_number p.certainty ∷ stated_of p.lasting ∷ seconds_of p.lasting ∷ []
+
+abbrev pub with_parts : (message status scope : ℕ) (sender name : Span) → Option Part → List ℕ
+with_parts m t c sender name None = numbers_of_none m t c sender name
+with_parts m t c sender name (Some p) = numbers_of_part m t c sender name p
 
 abbrev pub cap_numbers : CapFacts → Span → Span → List ℕ
 cap_numbers f sender name = with_parts (message_number f.message) (status_number f.status) (scope_number f.scope) sender name f.parts

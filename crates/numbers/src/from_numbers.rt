@@ -1,24 +1,22 @@
-// What numbers say. They are tested first; the functions that take a sheet's facts from them ask that the tests passed.
-ghost use Rattle.std.specs.Prelude.{◌≡◌, true, ◌<◌};
+// What numbers say, if they say it.
+ghost use Rattle.std.specs.Prelude.{◌≡◌, ◌||◌, cond, eqb};
 ghost use Rattle.codes.specs.Lists.{is_number};
-ghost use Rattle.numbers.specs.Numbers.{is_flag, has_no_part, are_lasting, are_part, are_cap, lasting_from, part_from, cap_from, sender_from, name_from};
-ghost use Rattle.numbers.specs.Numbers.{are_warn, warn_from};
+ghost use Rattle.numbers.specs.Numbers.{has_no_part, are_lasting, are_part, are_cap, lasting_from, part_from, parts_from, cap_from, sender_from, name_from};
+ghost use Rattle.numbers.specs.Numbers.{is_flag, are_warn, warn_from};
 
+use codes::Code;
 use codes::texts::is_number;
-use codes::{list, values};
 use sheet::{CapFacts, Lasting, Part, Parts, Span, WarnFacts};
 
-// Whether a list of codes has a number.
-fn is_code(list: usize, k: u64) -> bool
-    ensures { result ≡ is_number list k }
+// The code that a number stands for, if its list has the number.
+fn code_from<C: Code>(k: u64) -> Option<C>
+    ensures { result ≡ cond (is_number C.LIST k) (Some (C.value_at k)) None }
 {
-    is_number(list, k as usize)
-}
-
-fn is_flag(k: u64) -> bool
-    ensures { result ≡ is_flag k }
-{
-    k <= 1
+    let k = k as usize;
+    if is_number(C::LIST, k) {
+        return Some(C::from_number(k));
+    }
+    None
 }
 
 // Whether numbers say that there is no part, and nothing of one.
@@ -28,81 +26,56 @@ fn has_no_part(n: &[u64; 15]) -> bool
     (n[4] == 0) & (n[5] == 0) & (n[6] == 0) & (n[7] == 0) & (n[8] == 0) & (n[9] == 0) & (n[10] == 0)
 }
 
-// Whether two numbers stand for a lasting time: one that isn't stated is 0.
-fn are_lasting(stated: u64, seconds: u64) -> bool
-    ensures { result ≡ are_lasting stated seconds }
+// The lasting time that two numbers stand for: one that isn't stated is 0.
+fn lasting_from(stated: u64, seconds: u64) -> Option<Lasting>
+    ensures { result ≡ cond (are_lasting stated seconds) (Some (lasting_from stated seconds)) None }
 {
-    ((stated == 1) & (seconds < 0x1_0000_0000)) | ((stated == 0) & (seconds == 0))
-}
-
-// Whether numbers stand for a part.
-fn are_part(n: &[u64; 15]) -> bool
-    ensures { result ≡ are_part n.now }
-{
-    (n[4] < 0x100)
-        & (n[5] < 0x100)
-        & is_code(list::URGENCY, n[6])
-        & is_code(list::SEVERITY, n[7])
-        & is_code(list::CERTAINTY, n[8])
-        & are_lasting(n[9], n[10])
-}
-
-// Whether numbers stand for a CAP sheet.
-pub fn are_cap(n: &[u64; 15]) -> bool
-    ensures { result ≡ are_cap n.now }
-{
-    (n[0] == 1)
-        & is_code(list::MSG_TYPE, n[1])
-        & is_code(list::STATUS, n[2])
-        & is_code(list::SCOPE, n[3])
-        & (has_no_part(n) | are_part(n))
-}
-
-fn lasting_from(stated: u64, seconds: u64) -> Lasting
-    requires { seconds < 0x1_0000_0000 }
-    ensures { result ≡ lasting_from stated seconds }
-{
-    if stated == 1 {
-        return Lasting::Seconds(seconds as u32);
-    }
-    Lasting::Unstated
-}
-
-fn part_from(n: &[u64; 15]) -> Part
-    requires { are_part n.now ≡ true }
-    ensures { result ≡ part_from n.now }
-{
-    Part {
-        number: n[4] as u8,
-        total: n[5] as u8,
-        urgency: values::urgency_at(n[6] as usize),
-        severity: values::severity_at(n[7] as usize),
-        certainty: values::certainty_at(n[8] as usize),
-        lasting: lasting_from(n[9], n[10]),
+    match (stated, seconds) {
+        (0, 0) => Some(None),
+        (1, _) => Some(Some(u32::try_from(seconds).ok()?)),
+        _ => None,
     }
 }
 
-fn parts_from(n: &[u64; 15]) -> Parts
-    requires { are_cap n.now ≡ true }
-    ensures { result ≡ (cap_from n.now).parts }
+// The part that numbers stand for.
+#[tactic(auto, unfolding(crate::specs::Numbers::are_part, crate::specs::Numbers::part_from))]
+fn part_from(n: &[u64; 15]) -> Option<Part>
+    ensures { result ≡ cond (are_part n.now) (Some (part_from n.now)) None }
+{
+    Some(Part {
+        number: u8::try_from(n[4]).ok()?,
+        total: u8::try_from(n[5]).ok()?,
+        urgency: code_from(n[6])?,
+        severity: code_from(n[7])?,
+        certainty: code_from(n[8])?,
+        lasting: lasting_from(n[9], n[10])?,
+    })
+}
+
+// The part of a sheet, or that it has none.
+fn parts_from(n: &[u64; 15]) -> Option<Parts>
+    ensures { result ≡ cond (has_no_part n.now || are_part n.now) (Some (parts_from n.now)) None }
 {
     if has_no_part(n) {
-        return Parts::NoPart;
+        return Some(None);
     }
-    Parts::OnePart(part_from(n))
+    part_from(n).map(Some)
 }
 
 // The CAP sheet that numbers stand for, but its sender and name.
-pub fn cap_from(n: &[u64; 15]) -> CapFacts
-    requires { are_cap n.now ≡ true }
-    ensures { result ≡ cap_from n.now }
+#[tactic(auto, unfolding(crate::specs::Numbers::are_cap, crate::specs::Numbers::cap_from))]
+pub fn cap_from(n: &[u64; 15]) -> Option<CapFacts>
+    ensures { result ≡ cond (are_cap n.now) (Some (cap_from n.now)) None }
 {
-    CapFacts {
-        message: values::message_at(n[1] as usize),
-        status: values::status_at(n[2] as usize),
-        scope: values::scope_at(n[3] as usize),
-        parts: parts_from(n),
+    if n[0] != 1 {
+        return None;
     }
+    Some(CapFacts {
+        message: code_from(n[1])?,
+        status: code_from(n[2])?,
+        scope: code_from(n[3])?,
+        parts: parts_from(n)?,
+    })
 }
 
 pub fn sender_from(n: &[u64; 15]) -> Span
@@ -123,46 +96,39 @@ pub fn name_from(n: &[u64; 15]) -> Span
     }
 }
 
-// Whether numbers stand for a WARN sheet.
-pub fn are_warn(n: &[u64; 15]) -> bool
-    ensures { result ≡ are_warn n.now }
+// Whether a flag is set: its number is 1, or 0.
+fn flag_from(k: u64) -> Option<bool>
+    ensures { result ≡ cond (is_flag k) (Some (eqb k 1)) None }
 {
-    (n[0] == 2)
-        & is_flag(n[1])
-        & is_flag(n[2])
-        & is_flag(n[3])
-        & is_flag(n[4])
-        & (n[5] < 0x1_0000_0000)
-        & (n[6] < 0x1_0000)
-        & (n[7] < 0x1_0000_0000)
-        & (n[8] < 0x1_0000_0000)
-        & (n[9] < 0x100)
-        & (n[10] < 0x100)
-        & (n[11] < 0x100)
-        & (n[12] < 0x100)
-        & (n[13] < 0x100)
-        & (n[14] < 0x100)
+    match k {
+        0 => Some(false),
+        1 => Some(true),
+        _ => None,
+    }
 }
 
 // The WARN sheet that numbers stand for.
-pub fn warn_from(n: &[u64; 15]) -> WarnFacts
-    requires { are_warn n.now ≡ true }
-    ensures { result ≡ warn_from n.now }
+#[tactic(auto, unfolding(crate::specs::Numbers::are_warn, crate::specs::Numbers::warn_from))]
+pub fn warn_from(n: &[u64; 15]) -> Option<WarnFacts>
+    ensures { result ≡ cond (are_warn n.now) (Some (warn_from n.now)) None }
 {
-    WarnFacts {
-        urgent: n[1] == 1,
-        update: n[2] == 1,
-        cancel: n[3] == 1,
-        test: n[4] == 1,
-        event: n[5] as u32,
-        number: n[6] as u16,
-        origin: n[7] as u32,
-        lasting: n[8] as u32,
-        hazard: n[9] as u8,
-        kind: n[10] as u8,
-        urgency: n[11] as u8,
-        severity: n[12] as u8,
-        certainty: n[13] as u8,
-        response: n[14] as u8,
+    if n[0] != 2 {
+        return None;
     }
+    Some(WarnFacts {
+        urgent: flag_from(n[1])?,
+        update: flag_from(n[2])?,
+        cancel: flag_from(n[3])?,
+        test: flag_from(n[4])?,
+        event: u32::try_from(n[5]).ok()?,
+        number: u16::try_from(n[6]).ok()?,
+        origin: u32::try_from(n[7]).ok()?,
+        lasting: u32::try_from(n[8]).ok()?,
+        hazard: u8::try_from(n[9]).ok()?,
+        kind: u8::try_from(n[10]).ok()?,
+        urgency: u8::try_from(n[11]).ok()?,
+        severity: u8::try_from(n[12]).ok()?,
+        certainty: u8::try_from(n[13]).ok()?,
+        response: u8::try_from(n[14]).ok()?,
+    })
 }

@@ -8,31 +8,23 @@ mod to_numbers; // to_numbers.rt: the numbers of a sheet
 ghost use Rattle.std.specs.Prelude.{◌≡◌};
 ghost use Rattle.numbers.specs.Numbers.{numbers_sheet, sheet_answer, numbers_of};
 
-use crate::from_numbers::{are_cap, are_warn, cap_from, name_from, sender_from, warn_from};
+use crate::from_numbers::{cap_from, name_from, sender_from, warn_from};
 use crate::to_numbers::{cap_numbers, warn_numbers};
 use sheet::Found;
 
 // The sheet that numbers stand for, if they stand for one.
-#[derive(Clone, Copy)]
-pub enum NumbersSheet {
-    Sheet(Found),
-    NotSheet,
-}
-
-// The sheet that numbers stand for.
-pub fn numbers_sheet(n: &[u64; 15]) -> NumbersSheet
+#[tactic(auto, unfolding(crate::specs::Numbers::numbers_sheet))]
+pub fn numbers_sheet(n: &[u64; 15]) -> Option<Found>
     ensures { sheet_answer result ≡ numbers_sheet n.now }
 {
-    if are_cap(n) {
-        return NumbersSheet::Sheet(Found::Cap(cap_from(n), sender_from(n), name_from(n)));
+    if let Some(facts) = cap_from(n) {
+        return Some(Found::Cap(facts, sender_from(n), name_from(n)));
     }
-    if are_warn(n) {
-        return NumbersSheet::Sheet(Found::Warn(warn_from(n)));
-    }
-    NumbersSheet::NotSheet
+    warn_from(n).map(Found::Warn)
 }
 
 // The numbers of a sheet that was found in a text.
+#[tactic(auto, unfolding(crate::specs::Numbers::numbers_of))]
 pub fn numbers_of(found: Found) -> [u64; 15]
     ensures { result ≡ numbers_of found }
 {

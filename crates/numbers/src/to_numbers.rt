@@ -1,82 +1,37 @@
 // The numbers of a sheet.
 ghost use Rattle.std.specs.Prelude.{◌≡◌};
-ghost use Rattle.numbers.specs.Numbers.{stated_of, seconds_of, numbers_of_none, numbers_of_part, cap_numbers, warn_numbers};
+ghost use Rattle.numbers.specs.Numbers.{stated_of, seconds_of, part_numbers, cap_numbers, warn_numbers};
 
-use codes::values;
-use sheet::{CapFacts, Lasting, Part, Parts, Span, WarnFacts};
+use codes::Code;
+use sheet::{CapFacts, Lasting, Parts, Span, WarnFacts};
 
 fn stated_of(lasting: Lasting) -> u64
     ensures { result ≡ stated_of lasting }
 {
-    match lasting {
-        Lasting::Unstated => 0,
-        Lasting::Seconds(seconds) => 1,
-    }
+    lasting.is_some() as u64
 }
 
 fn seconds_of(lasting: Lasting) -> u64
     ensures { result ≡ seconds_of lasting }
 {
-    match lasting {
-        Lasting::Unstated => 0,
-        Lasting::Seconds(seconds) => seconds as u64,
-    }
+    lasting.unwrap_or(0) as u64
 }
 
-// The numbers of a CAP sheet without parts, its codes by their numbers.
-fn numbers_of_none(message: u64, status: u64, scope: u64, sender: Span, name: Span) -> [u64; 15]
-    ensures { result ≡ numbers_of_none message status scope sender name }
+// The numbers of the part that a CAP sheet tells of; all 0 where it tells of none.
+fn part_numbers(parts: Parts) -> [u64; 7]
+    ensures { result ≡ part_numbers parts }
 {
+    let Some(p) = parts else {
+        return [0; 7];
+    };
     [
-        1,
-        message,
-        status,
-        scope,
-        0,
-        0,
-        0,
-        0,
-        0,
-        0,
-        0,
-        sender.start as u64,
-        sender.len as u64,
-        name.start as u64,
-        name.len as u64,
-    ]
-}
-
-// The numbers of a CAP sheet of a part.
-fn numbers_of_part(
-    message: u64,
-    status: u64,
-    scope: u64,
-    sender: Span,
-    name: Span,
-    p: Part,
-) -> [u64; 15]
-    ensures { result ≡ numbers_of_part message status scope sender name p }
-{
-    let urgency = p.urgency;
-    let severity = p.severity;
-    let certainty = p.certainty;
-    let lasting = p.lasting;
-    [
-        1,
-        message,
-        status,
-        scope,
         p.number as u64,
         p.total as u64,
-        values::urgency_number(urgency) as u64,
-        values::severity_number(severity) as u64,
-        values::certainty_number(certainty) as u64,
-        stated_of(lasting),
-        seconds_of(lasting),
-        sender.start as u64,
-        sender.len as u64,
-        name.start as u64,
-        name.len as u64,
+        p.urgency.number() as u64,
+        p.severity.number() as u64,
+        p.certainty.number() as u64,
+        stated_of(p.lasting),
+        seconds_of(p.lasting),
     ]
 }
 
@@ -84,20 +39,28 @@ fn numbers_of_part(
 pub fn cap_numbers(f: CapFacts, sender: Span, name: Span) -> [u64; 15]
     ensures { result ≡ cap_numbers f sender name }
 {
-    let message_type = f.message;
-    let status_code = f.status;
-    let scope_code = f.scope;
-    let parts = f.parts;
-    let message = values::message_number(message_type) as u64;
-    let status = values::status_number(status_code) as u64;
-    let scope = values::scope_number(scope_code) as u64;
-    match parts {
-        Parts::NoPart => numbers_of_none(message, status, scope, sender, name),
-        Parts::OnePart(p) => numbers_of_part(message, status, scope, sender, name, p),
-    }
+    let [number, total, urgency, severity, certainty, stated, seconds] = part_numbers(f.parts);
+    [
+        1,
+        f.message.number() as u64,
+        f.status.number() as u64,
+        f.scope.number() as u64,
+        number,
+        total,
+        urgency,
+        severity,
+        certainty,
+        stated,
+        seconds,
+        sender.start as u64,
+        sender.len as u64,
+        name.start as u64,
+        name.len as u64,
+    ]
 }
 
 // The numbers of a WARN sheet.
+#[tactic(auto, unfolding(crate::specs::Numbers::warn_numbers))]
 pub fn warn_numbers(w: WarnFacts) -> [u64; 15]
     ensures { result ≡ warn_numbers w }
 {

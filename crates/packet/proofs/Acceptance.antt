@@ -2,6 +2,7 @@
 use mathlib.Core.Path.{◌≡◌, refl, sym, ap, ◌∙◌}
 use mathlib.Core.Bool.{Bool, true, false, cond, not}
 use mathlib.Core.List.{List}
+use Rattle.std.specs.Prelude.{Result, Ok}
 use Prim.Native.Nat.{ℕ, ◌≤◌}
 use native.Mathlib.Omega.{arith}
 use borrow.Author.Tests.{ltb-false, le-ltb, leb-true, not-false, eqb-true, eq-eqb}
@@ -15,8 +16,7 @@ use Rattle.text.specs.Answers.{Answer, gives, refuses}
 use Rattle.words.specs.Duration.{is_lasting}
 use Rattle.coordinates.specs.Place.{in_range}
 use Rattle.packet.specs.declared.Fields.{Fields}
-use Rattle.packet.specs.declared.Packet.{Packet}
-use Rattle.packet.specs.declared.Packet.TheVariants.{Alert}
+use Rattle.packet.specs.declared.Fault.{Fault}
 use Rattle.packet.specs.BigEndian.{number_of}
 use Rattle.packet.specs.Packet.{flag, fields_of, epicentre, lasting_of, packet_of, packet_answer}
 
@@ -105,7 +105,7 @@ refusal_numbers p =
 -- ---- the lasting time
 
 -- of the packet o that was read
-pub lasts_read : (p : List ℕ) (o : Packet) → packet_answer o ≡ packet_of p → (f : Fields) → o ≡ Alert f → is_lasting (lasting_of f) ≡ true
+pub lasts_read : (p : List ℕ) (o : Result Fields Fault) → packet_answer o ≡ packet_of p → (f : Fields) → o ≡ Ok f → is_lasting (lasting_of f) ≡ true
 lasts_read p o e f g = (accepted p f (sym e ∙ ap packet_answer g)).lasts
 
 -- it fits 32 bits

@@ -1,17 +1,26 @@
--- Two's complement: the integer that 32 bits are, through a difference in 64 bits.
-use mathlib.Core.Path.{◌≡◌, ap, ◌∙◌}
+-- Coordinates: the integer that the library reads from four bytes in two's complement.
+use mathlib.Core.Path.{◌≡◌, refl, ap, ◌∙◌}
 use mathlib.Core.List.{List}
-use Prim.Native.Nat.{ℕ, suc, ◌-◌, ◌≤◌, ◌<◌}
+use Prim.Native.Nat.{ℕ, suc, ◌+◌, ◌-◌, ◌≤◌, ◌<◌}
 use native.Mathlib.Omega.{arith}
 use borrow.Author.Tests.{lt-ltb, le-ltb}
 use lib.IntN.{ℤ, pos, negsuc, ◌-ℤ◌}
+use lib.ListN.{length, take, drop}
 use lib.Signed.{mag}
 use mir.Syntax.{w32, w64}
 use mir.Val.{SFits, to_z}
 use mir.Facts.{to_z-of_z, to_z_pos}
+use Rattle.std.specs.Int.{from_be_bytes}
 use Rattle.integers.specs.Bits.{read, read_given}
-use Rattle.packet.specs.BigEndian.{number_of}
 use Rattle.packet.specs.Packet.{coordinate}
+use Rattle.packet.proofs.Numbers.{number_four}
+
+pub coordinate_at : (p : List ℕ) (at : ℕ) (z : ℤ) (l : List ℕ) → mag z < 0x8000_0000 → z ≡ to_z w32 (from_be_bytes w32 l)
+    → l ≡ take 4 (drop at p) → at + 4 ≤ length p → read w32 z ≡ coordinate at p
+unfolding coordinate
+coordinate_at p at z l h e f g = read_given w32 z h ∙ e ∙ ap (to_z w32) (number_four p at _ l refl f g)
+
+-- the same through a difference in 64 bits
 
 -- the upper half of the numbers of 32 bits is negative
 module _ (x : ℕ) (f : x < 0x1_0000_0000) (h : 0x8000_0000 ≤ x) where
@@ -32,12 +41,3 @@ module _ (x : ℕ) (f : x < 0x1_0000_0000) (h : 0x8000_0000 ≤ x) where
 
   pub narrowed_is : read w32 (read w64 (to_z w64 x -ℤ pos 0x1_0000_0000)) ≡ to_z w32 x
   narrowed_is = rw below_is (to_z-of_z narrow_fits)
-
--- a coordinate, from the bits that were read and the integer that they are
-pub coordinate_is : (p : List ℕ) (at x : ℕ) (z : ℤ) → mag z < 0x8000_0000 → z ≡ to_z w32 x → x ≡ number_of 4 at p → read w32 z ≡ coordinate at p
-unfolding coordinate
-coordinate_is p at x z h e f = read_given w32 z h ∙ e ∙ ap (to_z w32) f
-
--- a coordinate that a callee gave, read back from its bits
-pub given_as : (z v : ℤ) → mag z < 0x8000_0000 → z ≡ v → read w32 z ≡ v
-given_as z v h e = read_given w32 z h ∙ e

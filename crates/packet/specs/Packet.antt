@@ -1,5 +1,5 @@
 -- The packet (document 01, "The packet" and "Refusal numbers").
-use Rattle.std.specs.Prelude.{Bool, true, false, cond, not, List, ℕ, ◌-◌, ◌*◌, ◌/◌, ◌%◌, ◌^◌, eqb, ltb, ℤ, length, take, drop}
+use Rattle.std.specs.Prelude.{Bool, cond, not, Result, Ok, Err, List, ℕ, ◌-◌, ◌*◌, ◌/◌, ◌%◌, ◌^◌, eqb, ltb, ℤ, length, take, drop}
 use Rattle.std.specs.Int.{w32}
 use Rattle.std.proofs.Common.{to_z}
 use Rattle.text.specs.Ascii.{ascii}
@@ -14,12 +14,8 @@ use Rattle.sheet.specs.declared.Span.{Span}
 use Rattle.packet.specs.declared.Fields.{Fields}
 use Rattle.packet.specs.declared.Fault.{Fault}
 use Rattle.packet.specs.declared.Fault.TheVariants as fault
-use Rattle.packet.specs.declared.Packet.{Packet}
-use Rattle.packet.specs.declared.Packet.TheVariants as packet
-use Rattle.packet.specs.declared.PacketSheet.{PacketSheet}
-use Rattle.packet.specs.declared.PacketSheet.TheVariants as drawn
-use Rattle.packet.specs.declared.PacketPlace.{PacketPlace}
-use Rattle.packet.specs.declared.PacketPlace.TheVariants as placed
+use Rattle.packet.specs.declared.PlaceFault.{PlaceFault}
+use Rattle.packet.specs.declared.PlaceFault.TheVariants as place
 use Rattle.packet.specs.BigEndian.{number_of}
 
 -- ---- the fields
@@ -116,9 +112,9 @@ fault_number fault.Long = 5
 fault_number fault.Range = 6
 fault_number fault.Lasting = 7
 
-abbrev pub packet_answer : Packet → Answer Fields
-packet_answer (packet.Alert f) = gives f
-packet_answer (packet.Refused e) = refuses (fault_number e) 0
+abbrev pub packet_answer : Result Fields Fault → Answer Fields
+packet_answer (Ok f) = gives f
+packet_answer (Err e) = refuses (fault_number e) 0
 
 -- ---- the sheet: "number being the packet's sequence, origin its key id, hazard and kind its hazard major and minor"
 
@@ -143,9 +139,9 @@ sheet_of_fields f = record {
 unfoldable pub packet_sheet : List ℕ → Answer WarnFacts
 packet_sheet p = giving sheet_of_fields (packet_of p)
 
-abbrev pub sheet_answer : PacketSheet → Answer WarnFacts
-sheet_answer (drawn.Sheet w) = gives w
-sheet_answer (drawn.Refused e) = refuses (fault_number e) 0
+abbrev pub sheet_answer : Result WarnFacts Fault → Answer WarnFacts
+sheet_answer (Ok w) = gives w
+sheet_answer (Err e) = refuses (fault_number e) 0
 
 -- ---- the place: "A packet's shape is the circle of its epicentre and radius", the radius in 10 m; the packet's own refusals, then 6 for the place
 
@@ -155,8 +151,7 @@ placed_in f place = cond (in_range place) (around_holds (epicentre f) (10 * f.ra
 unfoldable pub packet_place : List ℕ → Place → Answer Bool
 packet_place p place = answer_and_then (packet_of p) (λ (f : Fields). placed_in f place)
 
-abbrev pub place_answer : PacketPlace → Answer Bool
-place_answer placed.Inside = gives true
-place_answer placed.Outside = gives false
-place_answer placed.OutOfRange = refuses 6 0
-place_answer (placed.Refused e) = refuses (fault_number e) 0
+abbrev pub place_answer : Result Bool PlaceFault → Answer Bool
+place_answer (Ok inside) = gives inside
+place_answer (Err place.OutOfRange) = refuses 6 0
+place_answer (Err (place.Packet e)) = refuses (fault_number e) 0

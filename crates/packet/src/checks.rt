@@ -1,53 +1,42 @@
 // The tests of a packet: its first bytes, its lasting time, and those on its fields.
-ghost use Rattle.std.specs.Prelude.{◌≡◌, ◌-◌, take};
+ghost use Rattle.std.specs.Prelude.{◌≡◌, take};
 ghost use Rattle.text.specs.Ascii.{ascii};
 ghost use Rattle.text.specs.Logic.{eql};
 ghost use Rattle.packet.specs.Packet.{accepted_of, alert_of, packet_answer};
 
 use super::layout::fields_of;
-use super::shape::epicentre;
-use super::{Fault, Fields, Packet};
+use super::{Fault, Fields};
 use sheet::ranges::is_lasting;
 
 // Whether a packet starts with "WARN".
 pub fn is_warn(p: &[u8]) -> bool
     ensures { result ≡ eql (take 4 p.now) (ascii "WARN") }
 {
-    text::equals(text::first(p, 4), b"WARN")
-}
-
-// How long a packet lasts, in seconds; 0 where it expires before its timestamp.
-pub fn lasting(expiry: u64, timestamp: u64) -> u64
-    ensures { result ≡ expiry - timestamp }
-{
-    if expiry < timestamp {
-        return 0;
-    }
-    expiry - timestamp
+    p.starts_with(b"WARN")
 }
 
 // The last tests of a packet, on its fields.
-fn accepted(f: Fields) -> Packet
+fn accepted(f: Fields) -> Result<Fields, Fault>
     ensures { packet_answer result ≡ accepted_of f }
 {
-    if !coordinates::in_range(epicentre(f)) {
-        return Packet::Refused(Fault::Range);
+    if !coordinates::in_range(f.epicentre()) {
+        return Err(Fault::Range);
     }
-    if !is_lasting(lasting(f.expiry, f.timestamp)) {
-        return Packet::Refused(Fault::Lasting);
+    if !is_lasting(f.lasting()) {
+        return Err(Fault::Lasting);
     }
-    Packet::Alert(f)
+    Ok(f)
 }
 
 // The tests of an ALERT from its length on.
-pub fn read_alert(p: &[u8]) -> Packet
+pub fn read_alert(p: &[u8]) -> Result<Fields, Fault>
     ensures { packet_answer result ≡ alert_of p.now }
 {
     if p.len() < 132 {
-        return Packet::Refused(Fault::Short);
+        return Err(Fault::Short);
     }
     if 1_200 < p.len() {
-        return Packet::Refused(Fault::Long);
+        return Err(Fault::Long);
     }
     accepted(fields_of(p))
 }

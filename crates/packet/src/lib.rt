@@ -2,9 +2,10 @@
 
 #![tactic(auto)]
 
-ghost use Rattle.std.specs.Prelude.{◌≡◌, true, ◌-◌, length};
+ghost use Rattle.std.specs.Prelude.{◌≡◌, true, ◌*◌, ◌≤◌};
 ghost use Rattle.words.specs.Duration.{is_lasting};
-ghost use Rattle.packet.specs.Packet.{tlv_of, signature_of, tlv_span, signature_span, signed_span, lasting_of, packet_of, fault_number, packet_answer, sheet_of_fields, packet_sheet, sheet_answer, packet_place, place_answer};
+ghost use Rattle.packet.specs.declared.PlaceFault.TheVariants.{Packet};
+ghost use Rattle.packet.specs.Packet.{epicentre, tlv_of, signature_of, tlv_span, signature_span, signed_span, lasting_of, packet_of, fault_number, packet_answer, sheet_of_fields, packet_sheet, sheet_answer, packet_place, place_answer};
 
 use coordinates::Place;
 use sheet::{Span, WarnFacts, span_in};
@@ -12,7 +13,6 @@ use sheet::{Span, WarnFacts, span_in};
 mod bytes;
 mod checks;
 mod layout;
-mod shape;
 
 // The fields of an ALERT packet. The TLV block and the signature are parts of the packet (`tlv_block`, `signature`).
 #[derive(Clone, Copy)]
@@ -40,8 +40,33 @@ pub struct Fields {
     pub key: u32,
 }
 
+impl Fields {
+    fn epicentre(&self) -> Place
+        ensures { result ≡ epicentre self.now }
+    {
+        Place {
+            lat: self.lat,
+            lon: self.lon,
+        }
+    }
+
+    // How long the packet lasts, in seconds; 0 where it expires before its timestamp.
+    fn lasting(&self) -> u64
+        ensures { result ≡ lasting_of self.now }
+    {
+        self.expiry.saturating_sub(self.timestamp)
+    }
+
+    // Its radius, of units of 10 m, in metres: its width keeps it below 20,000 km.
+    fn metres(&self) -> u32
+        ensures { (result ≡ 10 * self.now.radius) × (result ≤ 20_000_000) }
+    {
+        10 * u32::from(self.radius)
+    }
+}
+
 // Why a packet is refused.
-#[derive(Clone, Copy)]
+#[derive(Clone, Copy, Debug, PartialEq, Eq)]
 pub enum Fault {
     Short,
     NotWarn,
@@ -52,37 +77,36 @@ pub enum Fault {
     Lasting,
 }
 
-// What a packet is: an ALERT with its fields, or refused.
-#[derive(Clone, Copy)]
-pub enum Packet {
-    Alert(Fields),
-    Refused(Fault),
-}
-
-// A packet's sheet, or why it is refused.
-#[derive(Clone, Copy)]
-pub enum PacketSheet {
-    Sheet(WarnFacts),
-    Refused(Fault),
-}
-
-// Whether a packet's circle holds a place; or why the packet, or the place, is refused.
-#[derive(Clone, Copy)]
-pub enum PacketPlace {
-    Inside,
-    Outside,
+// Why a place is on no side of a packet's circle: it is out of range, or the packet is refused.
+#[derive(Clone, Copy, Debug, PartialEq, Eq)]
+pub enum PlaceFault {
     OutOfRange,
-    Refused(Fault),
+    Packet(Fault),
 }
 
-// How many bytes stand before the last n of a packet; 0 where it has fewer than n.
-fn before_last(p: &[u8], n: usize) -> usize
-    ensures { result ≡ length p.now - n }
-{
-    if p.len() < n {
-        return 0;
+// Document 01's number for a fault.
+impl From<Fault> for u8 {
+    ghost from_gives = { λ fault number. number ≡ fault_number fault };
+
+    fn from(fault: Fault) -> u8 {
+        match fault {
+            Fault::Short => 1,
+            Fault::NotWarn => 2,
+            Fault::Version => 3,
+            Fault::NotAlert => 4,
+            Fault::Long => 5,
+            Fault::Range => 6,
+            Fault::Lasting => 7,
+        }
     }
-    p.len() - n
+}
+
+impl From<Fault> for PlaceFault {
+    ghost from_gives = { λ fault place_fault. place_fault ≡ Packet fault };
+
+    fn from(fault: Fault) -> PlaceFault {
+        PlaceFault::Packet(fault)
+    }
 }
 
 // Where the TLV block stands: between the fields and the last 68 bytes. It is empty where the packet is shorter than an ALERT.
@@ -91,7 +115,7 @@ pub fn tlv_span(p: &[u8]) -> Span
 {
     Span {
         start: 0x40,
-        len: before_last(p, 132),
+        len: p.len().saturating_sub(132),
     }
 }
 
@@ -100,7 +124,7 @@ pub fn signature_span(p: &[u8]) -> Span
     ensures { result ≡ signature_span p.now }
 {
     Span {
-        start: before_last(p, 64),
+        start: p.len().saturating_sub(64),
         len: 64,
     }
 }
@@ -111,11 +135,12 @@ pub fn signed_span(p: &[u8]) -> Span
 {
     Span {
         start: 0,
-        len: before_last(p, 64),
+        len: p.len().saturating_sub(64),
     }
 }
 
 // The TLV block of a packet; none where the packet is shorter than an ALERT.
+#[tactic(auto, using(crate::proofs::Parts::tlv_bytes))]
 pub fn tlv_block(p: &[u8]) -> &[u8]
     ensures { result.now ≡ tlv_of p.now }
 {
@@ -123,32 +148,35 @@ pub fn tlv_block(p: &[u8]) -> &[u8]
 }
 
 // The signature of a packet: its last 64 bytes, all of it where it is shorter.
+#[tactic(auto, unfolding(crate::specs::Packet::signature_of))]
 pub fn signature(p: &[u8]) -> &[u8]
     ensures { result.now ≡ signature_of p.now }
 {
-    span_in(p, signature_span(p))
+    &p[p.len().saturating_sub(64)..]
 }
 
 // The fields of an ALERT packet, or why it is refused.
-pub fn read_packet(p: &[u8]) -> Packet
+#[tactic(auto, unfolding(crate::specs::Packet::packet_of))]
+pub fn read_packet(p: &[u8]) -> Result<Fields, Fault>
     ensures { packet_answer result ≡ packet_of p.now }
 {
     if p.len() < 8 {
-        return Packet::Refused(Fault::Short);
+        return Err(Fault::Short);
     }
     if !checks::is_warn(p) {
-        return Packet::Refused(Fault::NotWarn);
+        return Err(Fault::NotWarn);
     }
-    if bytes::u8_at(p, 0x04) != 1 {
-        return Packet::Refused(Fault::Version);
+    if layout::major_version(p) != 1 {
+        return Err(Fault::Version);
     }
     if !layout::flag(p, 0) {
-        return Packet::Refused(Fault::NotAlert);
+        return Err(Fault::NotAlert);
     }
     checks::read_alert(p)
 }
 
 // The sheet of an ALERT's fields.
+#[tactic(auto, unfolding(crate::specs::Packet::sheet_of_fields))]
 fn sheet_of(f: Fields) -> WarnFacts
     requires { is_lasting (lasting_of f) ≡ true }
     ensures { result ≡ sheet_of_fields f }
@@ -161,7 +189,7 @@ fn sheet_of(f: Fields) -> WarnFacts
         event: f.event,
         number: f.sequence,
         origin: f.key,
-        lasting: checks::lasting(f.expiry, f.timestamp) as u32,
+        lasting: f.lasting() as u32,
         hazard: f.hazard_major,
         kind: f.hazard_minor,
         urgency: f.urgency,
@@ -172,38 +200,23 @@ fn sheet_of(f: Fields) -> WarnFacts
 }
 
 // The sheet of a packet, or why the packet is refused.
-pub fn packet_sheet(p: &[u8]) -> PacketSheet
+#[tactic(auto, using(crate::proofs::Acceptance::lasts_read), unfolding(crate::specs::Packet::packet_sheet))]
+pub fn packet_sheet(p: &[u8]) -> Result<WarnFacts, Fault>
     ensures { sheet_answer result ≡ packet_sheet p.now }
 {
-    let read = read_packet(p);
-    match read {
-        Packet::Alert(f) => PacketSheet::Sheet(sheet_of(f)),
-        Packet::Refused(fault) => PacketSheet::Refused(fault),
-    }
+    let fields = read_packet(p)?;
+    Ok(sheet_of(fields))
 }
 
 // Whether a packet's circle holds a place; or why the packet, and then the place, is refused.
-pub fn packet_place(p: &[u8], place: Place) -> PacketPlace
+#[tactic(auto, using(crate::proofs::Sides::always_a_side), unfolding(crate::specs::Packet::packet_place))]
+pub fn packet_place(p: &[u8], place: Place) -> Result<bool, PlaceFault>
     ensures { place_answer result ≡ packet_place p.now place }
 {
-    let read = read_packet(p);
-    match read {
-        Packet::Alert(f) => shape::place_in(f, place),
-        Packet::Refused(fault) => PacketPlace::Refused(fault),
+    let fields = read_packet(p)?;
+    if !coordinates::in_range(place) {
+        return Err(PlaceFault::OutOfRange);
     }
-}
-
-// Document 01's number for a fault.
-pub fn fault_number(fault: Fault) -> u8
-    ensures { result ≡ fault_number fault }
-{
-    match fault {
-        Fault::Short => 1,
-        Fault::NotWarn => 2,
-        Fault::Version => 3,
-        Fault::NotAlert => 4,
-        Fault::Long => 5,
-        Fault::Range => 6,
-        Fault::Lasting => 7,
-    }
+    // a packet's radius always makes a circle
+    Ok(circle::around_holds(fields.epicentre(), fields.metres(), place).unwrap())
 }

@@ -2,51 +2,20 @@
 
 #![tactic(auto)]
 
-use input::Ending;
-use packet::{Fault, PacketSheet};
-use sheet::{WarnFacts, WriteSheet};
+use sheet::Found;
+use std::io;
 
-// The standard output.
-const STDOUT_FILENO: i32 = 1;
-
-// Room for any sentence.
-const SENTENCE_ROOM: usize = 1024;
-
-fn print_sentence(facts: WarnFacts) {
-    let mut sentence = [0u8; SENTENCE_ROOM];
-    let answer = readback::write_warn(&mut sentence, 0, facts);
-    let WriteSheet::End(end) = answer else {
-        return;
-    };
-    if end <= SENTENCE_ROOM {
-        io::write_all(STDOUT_FILENO, &sentence[..end]);
+fn print_answer(rt: &impl Print, packet: &[u8]) -> io::Result<()> {
+    match packet::packet_sheet(packet) {
+        Ok(facts) => output::write_sentence(&mut io::writer(rt), packet, Found::Warn(facts)),
+        Err(fault) => println!(rt; "refused {} at 0", u8::from(fault)),
     }
 }
 
-fn print_refusal(fault: Fault) {
-    io::write_all(STDOUT_FILENO, b"refused ");
-    io::print_decimal(STDOUT_FILENO, packet::fault_number(fault) as u64);
-    io::write_all(STDOUT_FILENO, b" at 0\n");
-}
-
-fn print_answer(packet: &[u8]) {
-    let drawn = packet::packet_sheet(packet);
-    match drawn {
-        PacketSheet::Sheet(facts) => print_sentence(facts),
-        PacketSheet::Refused(fault) => print_refusal(fault),
-    }
-}
-
-fn main(rt: HostRuntime) {
-    let mut packet = [0u8; 1201]; // one byte more than a packet may have: what follows can't change the answer
-    let mut reader = rt.reader();
-    let read = input::read_input(&mut reader, &mut packet);
-    let n = read.length;
-    let ending = read.ending;
-    match ending {
-        Ending::Whole | Ending::More => print_answer(&packet[..n]),
-        Ending::Failed => {
-            io::write_all(STDOUT_FILENO, b"input can't be read\n");
-        }
+fn main(rt: HostRuntime) -> io::Result<()> {
+    let mut buffer = [0u8; 1201]; // one byte more than a packet may have: what follows can't change the answer
+    match input::read_input(&mut rt.reader(), &mut buffer) {
+        Ok(packet) => print_answer(&rt, packet),
+        Err(_) => println!(rt; "input can't be read"),
     }
 }

@@ -14,12 +14,11 @@ use Rattle.text.specs.Answers.{Answer, gives, refuses, IfGiven}
 use Rattle.text.specs.Logic.{and_right, clash}
 use Rattle.integers.specs.Bits.{read, read_given, read_small}
 use Rattle.integers.specs.Reads.{Reads, reads_abs, sub_fits, sub_reads}
-use Rattle.time.specs.declared.Time.{Time}
-use Rattle.time.specs.declared.Time.TheVariants.{Instant}
+use Rattle.std.specs.Prelude.{Option, Some, None}
+use Rattle.std.specs.Option.{option_or}
 use Rattle.time.specs.Time.{time_of, time_answer}
 use Rattle.time.specs.Range.{InstantRange}
 use Rattle.time.proofs.Range.{range_abs, range_apart, time_range}
-use Rattle.sheet.specs.declared.Lasting.TheVariants as lasting
 use Rattle.parts.specs.Sheets.{between, start_of, lasts_from}
 
 -- ---- the difference of two instants in range
@@ -56,7 +55,7 @@ module _ (start end : ℤ) (range : InstantRange start × InstantRange end) wher
     pub far_cast : T (non_neg (read w64 (read w64 end -ℤ read w64 start))) × Fits w32 (nat_abs (read w64 (read w64 end -ℤ read w64 start)))
     far_cast = lasting_fits (read w64 (read w64 end -ℤ read w64 start)) e
 
-    pub far_stated : gives (lasting.Seconds (nat_abs (read w64 (read w64 end -ℤ read w64 start)))) ≡ lasts_from (gives start) (gives end)
+    pub far_stated : gives (Some (nat_abs (read w64 (read w64 end -ℤ read w64 start)))) ≡ lasts_from (gives start) (gives end)
     far_stated = rw (← far_is) (rw (between_tested (read w64 (read w64 end -ℤ read w64 start)), e) refl)
 
   pub far_out : tested (read w64 (read w64 end -ℤ read w64 start)) ≡ false → refuses 7 0 ≡ lasts_from (gives start) (gives end)
@@ -66,13 +65,13 @@ module _ (start end : ℤ) (range : InstantRange start × InstantRange end) wher
 
 -- an instant that is handed on
 pub start_given :
-    (effective sent : Time) (i : ℤ) → effective ≡ Instant i → mag i < 9_223_372_036_854_775_808
+    (effective sent : Option ℤ) (i : ℤ) → effective ≡ Some i → mag i < 9_223_372_036_854_775_808
     → gives (read w64 i) ≡ start_of (time_answer effective) (time_answer sent)
 start_given effective sent i e h = rw e (ap gives (read_given w64 i h))
 
-module _ (t : Time) (i : ℤ) (is : t ≡ Instant i) (range : IfGiven InstantRange (time_answer t)) where
+module _ (t : Option ℤ) (i : ℤ) (is : t ≡ Some i) (range : IfGiven InstantRange (time_answer t)) where
   instant_range : InstantRange i
-  instant_range = subst (λ (r : Time). IfGiven InstantRange (time_answer r)) is range
+  instant_range = subst (λ (r : Option ℤ). IfGiven InstantRange (time_answer r)) is range
 
   instant_read : read w64 i ≡ i
   instant_read = read_small i (omega (arith, range_abs i instant_range))
@@ -81,11 +80,15 @@ module _ (t : Time) (i : ℤ) (is : t ≡ Instant i) (range : IfGiven InstantRan
   range_read = rw instant_read instant_range
 
 pub lasts_given :
-    (start expires : Time) (i e : ℤ) → start ≡ Instant i → expires ≡ Instant e
+    (start expires : Option ℤ) (i e : ℤ) → start ≡ Some i → expires ≡ Some e
     → IfGiven InstantRange (time_answer start) × IfGiven InstantRange (time_answer expires)
     → lasts_from (gives (read w64 i)) (gives (read w64 e)) ≡ lasts_from (time_answer start) (time_answer expires)
 lasts_given start expires i e p q range =
     rw (instant_read start i p range.0, instant_read expires e q range.1, p, q) refl
+
+pub start_or : (effective sent : Option ℤ) → time_answer (option_or effective sent) ≡ start_of (time_answer effective) (time_answer sent)
+start_or (Some i) sent = refl
+start_or None sent = refl
 
 -- the start of a part, by its two texts
 pub start_range : (effective sent : List ℕ) → IfGiven InstantRange (start_of (time_of effective) (time_of sent))

@@ -9,14 +9,19 @@ use lib.Dec.{eqb, leb, ltb}
 use lib.ListN.{length, get_or, replicate, length-set, get_or-replicate}
 use lib.Seq.{get_or-set_same, get_or-set_other}
 use mir.Val.{bool_byte}
+use Rattle.text.specs.Answers.{gives}
 use Rattle.text.specs.Logic.{by_test, cond_cases, and_left}
 use Rattle.sheet.specs.declared.Span.{Span}
 use Rattle.coordinates.specs.declared.Place.{Place}
 use Rattle.schema.specs.Classes as class
+use Rattle.document.specs.declared.Event.{Event}
+use Rattle.document.specs.declared.Event.TheVariants.{Silent, Opened, Text, Closed}
+use Rattle.document.specs.Documents.{elements_of}
 use Rattle.document.specs.Elements.{Element, opened, text, closed, is_start, fold, counted, gather}
-use Rattle.parts.specs.declared.Facts.{Facts}
-use Rattle.parts.specs.declared.Shapes.{Shapes}
+use Rattle.parts.specs.declared.texts.Facts.{Facts}
+use Rattle.parts.specs.declared.areas.Shapes.{Shapes}
 use Rattle.parts.specs.Elements.{within, alert_of, part_of, span_of, later, nowhere, text_span}
+use Rattle.parts.specs.Reading.{event_answer}
 use Rattle.parts.specs.Gathering.{kept, stored, alert_span, part_span, noted, no_facts, looked, seen, no_shapes}
 
 -- ---- any facts
@@ -56,11 +61,6 @@ module _ {F G : Type 0} (get : F → G) (note : ℕ → F → Element → F) (lo
       ∙ (rw (on (counted k x) f x) (one_kept (is_start class.info x) k (get f) x es refl))
 
 -- ---- where texts stand
-
--- a class before the first, or a list that isn't asked for
-pub store_out : (asked : Bool) (first c : ℕ) (s : Span) (ss : List Span) → asked && leb first c ≡ false → ss ≡ cond asked (stored first c s ss) ss
-store_out true first c s ss e = rw e
-store_out false first c s ss e = refl
 
 -- one list of spans, from a first class on
 abbrev put : ℕ → List Span → Element → List Span
@@ -130,6 +130,16 @@ module _ (n : ℕ) (es : List Element) (c : ℕ) where
       on k f (opened d p) = sym (cond_same (eqb k n) f.part)
       on k f (text d p t) = refl
       on k f (closed d) = sym (cond_same (eqb k n) f.part)
+
+-- an event that is no text
+pub noted_other :
+    (n k : ℕ) (f : Facts) (l : List ℕ) (e : Event) → ((c from until : ℕ) → e ≡ Text c from until → ⊥)
+    → (gives tt ≡ event_answer l e) × (f ≡ fold (noted n k) f (elements_of l e))
+unfolding fold
+noted_other n k f l Silent h = (refl, refl)
+noted_other n k f l (Opened c q) h = (refl, refl)
+noted_other n k f l (Text c from until) h = absurd (h c from until refl)
+noted_other n k f l (Closed c) h = (refl, refl)
 
 -- ---- shapes
 

@@ -1,27 +1,27 @@
 -- What is kept of the shapes of a part says why: the areas of the definitions and what is counted along the elements lead to the same.
 use mathlib.Core.Path.{◌≡◌, refl, sym, ap, ◌∙◌}
-use mathlib.Core.Bool.{Bool, true, false, not, ◌&&◌, ◌||◌, false≢true}
+use mathlib.Core.Bool.{Bool, true, false, not, ◌&&◌, ◌||◌}
 use mathlib.Core.List.{List, [], ◌∷◌}
-use mathlib.Core.Option.{Option, none, some}
 use Prim.Native.Nat.{ℕ, ◌+◌}
 use native.Mathlib.Omega.{arith}
-use borrow.Author.Tests.{eqb-true, ne_eqb, lt-ltb}
+use borrow.Author.Tests.{eqb-true, lt-ltb}
 use lib.Dec.{eqb, ltb}
 use lib.ListN.{length}
 use mir.Val.{bool_byte}
+use Rattle.std.specs.Prelude.{Option, Some, None, is_some}
 use Rattle.text.specs.Logic.{by_test, or_false, or_assoc}
 use Rattle.coordinates.specs.declared.Place.{Place}
 use Rattle.schema.specs.Classes as class
 use Rattle.document.specs.Elements.{Element, opened, text, closed, fold}
-use Rattle.parts.specs.declared.Shapes.{Shapes}
+use Rattle.parts.specs.declared.areas.Shapes.{Shapes}
 use Rattle.parts.specs.declared.ShapeAt.{ShapeAt}
+use Rattle.parts.specs.declared.ShapeKind.{ShapeKind}
 use Rattle.parts.specs.declared.ShapeKind.TheVariants as kind
 use Rattle.parts.specs.Areas.{Area, up_to_end, texts_of, no_area, area_of, areas_of, shapes_of}
 use Rattle.parts.specs.Places.{is_shape, shape_holds, any_text, any_shape, any_holds}
 use Rattle.parts.specs.Reasons.{kind_holds, or_else, first_of_kind, first_from, first_shape}
-use Rattle.parts.specs.Gathering.{shown_text, with_area, is_named, added, looked, no_shapes, named_shape}
+use Rattle.parts.specs.Gathering.{with_area, with_shape, with_text, looked, no_shapes}
 use Rattle.parts.proofs.AreaOrder.{Phase, between_areas, among_polygons, behind_polygons, misplaced, on_area, on_polygon, on_circle, on_other, phase_after, Placed}
-use Rattle.parts.proofs.Sights.{no_shape_lem}
 
 -- ---- the rest of the area in which a list of elements starts
 
@@ -68,13 +68,13 @@ rest_skip misplaced x es j k = refl
 
 -- ---- what the rest of a part adds: the first shape that holds the place, and how many shapes there are
 
-or_none : {A : Type 0} (x : Option A) → or_else x none ≡ x
-or_none none = refl
-or_none (some x) = refl
+or_none : {A : Type 0} (x : Option A) → or_else x None ≡ x
+or_none None = refl
+or_none (Some x) = refl
 
 or_else_assoc : {A : Type 0} (x y z : Option A) → or_else (or_else x y) z ≡ or_else x (or_else y z)
-or_else_assoc none y z = refl
-or_else_assoc (some x) y z = refl
+or_else_assoc None y z = refl
+or_else_assoc (Some x) y z = refl
 
 -- the same shape and the same number
 alike : {o : Option ShapeAt} {m n : ℕ} → m ≡ n → ◌≡◌ {A = Option ShapeAt × ℕ} (o, m) (o, n)
@@ -84,7 +84,7 @@ module _ (p : Place) where
   -- by what was seen, the rest of the area and the areas after it
   abbrev says : Shapes → Area → List Area → Option ShapeAt × ℕ
   says f a xs = (
-    or_else (named_shape f)
+    or_else f.first
         (or_else (first_of_kind p f.areas kind.Polygon (f.polygons + 1) a.polygons)
         (or_else (first_of_kind p f.areas kind.Circle (f.circles + 1) a.circles) (first_from p (f.areas + 1) xs))),
     f.count + (length a.polygons + length a.circles + shapes_of xs),
@@ -93,7 +93,7 @@ module _ (p : Place) where
   on_area_lem : (f : Shapes) (a : Area) (xs : List Area) → says (with_area f) a xs ≡ says f no_area (a ∷ xs)
   unfolding first_of_kind first_from shapes_of
   on_area_lem f a xs =
-      ap (λ (o : Option ShapeAt). (or_else (named_shape f) o, f.count + (length a.polygons + length a.circles + shapes_of xs)))
+      ap (λ (o : Option ShapeAt). (or_else f.first o, f.count + (length a.polygons + length a.circles + shapes_of xs)))
       (sym
       (or_else_assoc (first_of_kind p (f.areas + 1) kind.Polygon 1 a.polygons) (first_of_kind p (f.areas + 1) kind.Circle 1 a.circles)
       (first_from p (f.areas + 1 + 1) xs)))
@@ -101,23 +101,27 @@ module _ (p : Place) where
 
   on_polygon_lem :
       (f : Shapes) (t : List ℕ) (ps cs : List (List ℕ)) (xs : List Area)
-      → says (added (shown_text p (is_named f) class.polygon t) f) (record { polygons = ps; circles = cs }) xs ≡ says f (record { polygons = t ∷ ps; circles = cs }) xs
+      → says (with_text p class.polygon t f) (record { polygons = ps; circles = cs }) xs ≡ says f (record { polygons = t ∷ ps; circles = cs }) xs
   unfolding first_of_kind
-  on_polygon_lem f t ps cs xs =
-      by_test (eqb f.class 0)
-      (λ e.
-      let z : f.circles + 0 ≡ f.circles = omega arith in
-      rw e (by_test (kind_holds p kind.Polygon t) (λ q. rw q (alike (omega arith))) (λ q. rw (q, e, z) (alike (omega arith)))))
-      (λ e. rw (e, e) (alike (omega arith)))
+  on_polygon_lem f t ps cs xs = go f.first refl
+    where
+      go :
+          (o : Option ShapeAt) → f.first ≡ o
+          → says (with_text p class.polygon t f) (record { polygons = ps; circles = cs }) xs ≡ says f (record { polygons = t ∷ ps; circles = cs }) xs
+      go None e = rw e (by_test (kind_holds p kind.Polygon t) (λ q. rw q (alike (omega arith))) (λ q. rw q (alike (omega arith))))
+      go (Some s) e = rw e (alike (omega arith))
 
   on_circle_lem :
       (f : Shapes) (t : List ℕ) (cs : List (List ℕ)) (xs : List Area)
-      → says (added (shown_text p (is_named f) class.circle t) f) (record { polygons = []; circles = cs }) xs ≡ says f (record { polygons = []; circles = t ∷ cs }) xs
+      → says (with_text p class.circle t f) (record { polygons = []; circles = cs }) xs ≡ says f (record { polygons = []; circles = t ∷ cs }) xs
   unfolding first_of_kind
-  on_circle_lem f t cs xs =
-      by_test (eqb f.class 0)
-      (λ e. rw e (by_test (kind_holds p kind.Circle t) (λ q. rw q (alike (omega arith))) (λ q. rw (q, e) (alike (omega arith)))))
-      (λ e. rw (e, e) (alike (omega arith)))
+  on_circle_lem f t cs xs = go f.first refl
+    where
+      go :
+          (o : Option ShapeAt) → f.first ≡ o
+          → says (with_text p class.circle t f) (record { polygons = []; circles = cs }) xs ≡ says f (record { polygons = []; circles = t ∷ cs }) xs
+      go None e = rw e (by_test (kind_holds p kind.Circle t) (λ q. rw q (alike (omega arith))) (λ q. rw q (alike (omega arith))))
+      go (Some s) e = rw e (alike (omega arith))
 
   -- an element of a part
   on_element :
@@ -144,7 +148,7 @@ module _ (p : Place) where
     where
       polygon :
           (h : Phase) → Placed (on_polygon h) es
-          → says (added (shown_text p (is_named f) class.polygon t) f) (rest_of (on_polygon h) es) (areas_of es) ≡ says f (rest_of h (text class.polygon q t ∷ es)) (areas_of es)
+          → says (with_text p class.polygon t f) (rest_of (on_polygon h) es) (areas_of es) ≡ says f (rest_of h (text class.polygon q t ∷ es)) (areas_of es)
       polygon between_areas j = absurd (none_misplaced es j)
       polygon among_polygons j = on_polygon_lem f t _ _ (areas_of es)
       polygon behind_polygons j = absurd (none_misplaced es j)
@@ -152,7 +156,7 @@ module _ (p : Place) where
 
       circle :
           (h : Phase) → Placed (on_circle h) es
-          → says (added (shown_text p (is_named f) class.circle t) f) (rest_of (on_circle h) es) (areas_of es) ≡ says f (rest_of h (text class.circle q t ∷ es)) (areas_of es)
+          → says (with_text p class.circle t f) (rest_of (on_circle h) es) (areas_of es) ≡ says f (rest_of h (text class.circle q t ∷ es)) (areas_of es)
       circle between_areas j = absurd (none_misplaced es j)
       circle among_polygons j = rw (no_polygons es j) (on_circle_lem f t _ (areas_of es))
       circle behind_polygons j = on_circle_lem f t _ (areas_of es)
@@ -167,9 +171,9 @@ module _ (p : Place) where
 
   along :
       (h : Phase) (f : Shapes) (es : List Element) → Placed h es
-      → ◌≡◌ {A = Option ShapeAt × ℕ} (named_shape (fold (looked p) f es), (fold (looked p) f es).count) (says f (rest_of h es) (areas_of es))
+      → ◌≡◌ {A = Option ShapeAt × ℕ} ((fold (looked p) f es).first, (fold (looked p) f es).count) (says f (rest_of h es) (areas_of es))
   unfolding fold Placed areas_of up_to_end texts_of first_of_kind first_from shapes_of
-  along h f [] k = rw (empty h, or_none (named_shape f)) (alike (omega arith))
+  along h f [] k = rw (empty h, or_none f.first) (alike (omega arith))
     where
       empty : (h : Phase) → rest_of h [] ≡ no_area
       empty between_areas = refl
@@ -184,19 +188,15 @@ module _ (p : Place) where
     abbrev kept : Shapes
     kept = fold (looked p) no_shapes es
 
-    kept_both : ◌≡◌ {A = Option ShapeAt × ℕ} (named_shape kept, kept.count) (first_shape p (areas_of es), shapes_of (areas_of es))
+    kept_both : ◌≡◌ {A = Option ShapeAt × ℕ} (kept.first, kept.count) (first_shape p (areas_of es), shapes_of (areas_of es))
     unfolding first_of_kind
     kept_both = along between_areas no_shapes es placed ∙ alike (omega arith)
 
-    pub kept_first : named_shape kept ≡ first_shape p (areas_of es)
+    pub kept_first : kept.first ≡ first_shape p (areas_of es)
     kept_first = ap (λ (r : Option ShapeAt × ℕ). r.0) kept_both
 
     pub kept_count : kept.count ≡ shapes_of (areas_of es)
     kept_count = ap (λ (r : Option ShapeAt × ℕ). r.1) kept_both
-
--- class 0 is no shape's
-shape_class : (c : ℕ) → is_shape c ≡ true → eqb c 0 ≡ false
-shape_class c e = ne_eqb c 0 (λ z. false≢true (rw z at e))
 
 -- ---- without areas: the texts of a part, one by one
 
@@ -205,14 +205,13 @@ module _ (p : Place) where
   start_count : (f : Shapes) (c q : ℕ) → (looked p f (opened c q)).count ≡ f.count
   start_count f c q = by_test (eqb c class.area) (λ e. rw e) (λ e. rw e)
 
-  start_named : (f : Shapes) (c q : ℕ) → is_named (looked p f (opened c q)) ≡ is_named f
+  start_named : (f : Shapes) (c q : ℕ) → is_some (looked p f (opened c q)).first ≡ is_some f.first
   start_named f c q = by_test (eqb c class.area) (λ e. rw e) (λ e. rw e)
 
-  text_count : (f : Shapes) (c : ℕ) (t : List ℕ) → (added (shown_text p (is_named f) c t) f).count ≡ f.count + bool_byte (is_shape c)
+  text_count : (f : Shapes) (c : ℕ) (t : List ℕ) → (with_text p c t f).count ≡ f.count + bool_byte (is_shape c)
   text_count f c t =
-      by_test (is_shape c)
-      (λ e. rw e (by_test (not (is_named f) && shape_holds p c t) (λ h. rw h) (λ h. rw h)))
-      (λ e. rw e (omega arith))
+      by_test (eqb c class.polygon) (λ e. rw e) λ e.
+      by_test (eqb c class.circle) (λ i. rw (e, i)) (λ i. rw (e, i) (omega arith))
 
   -- something that texts may be: whether one is
   any_looked :
@@ -237,14 +236,21 @@ module _ (p : Place) where
       more n false = let z : n + 0 ≡ n = omega arith in rw z (sym (or_false (ltb 0 n)))
 
   -- and one that holds the place, if one was named
-  pub any_named : (es : List Element) → is_named (fold (looked p) no_shapes es) ≡ any_holds p es
-  any_named es = any_looked (shape_holds p) is_named start_named (λ f c q t. on_text f c t) no_shapes es
+  pub any_named : (es : List Element) → is_some (fold (looked p) no_shapes es).first ≡ any_holds p es
+  any_named es = any_looked (shape_holds p) (λ (f : Shapes). is_some f.first) start_named (λ f c q t. on_text f c t) no_shapes es
     where
-      on_text : (f : Shapes) (c : ℕ) (t : List ℕ) → is_named (added (shown_text p (is_named f) c t) f) ≡ is_named f || shape_holds p c t
+      held_more : (k : ShapeKind) (b : Bool) (f : Shapes) → is_some (with_shape k (not (is_some f.first) && b) f).first ≡ is_some f.first || b
+      held_more kind.Polygon b f =
+          by_test (is_some f.first) (λ n. rw n n) (λ n. rw n (by_test b (λ h. rw h) (λ h. rw h n)))
+      held_more kind.Circle b f =
+          by_test (is_some f.first) (λ n. rw n n) (λ n. rw n (by_test b (λ h. rw h) (λ h. rw h n)))
+
+      on_text : (f : Shapes) (c : ℕ) (t : List ℕ) → is_some (with_text p c t f).first ≡ is_some f.first || shape_holds p c t
       on_text f c t =
-          by_test (is_shape c)
-          (λ e. rw e (by_test (is_named f) (λ n. rw n n) (λ n. rw n (by_test (shape_holds p c t) (λ h. rw (h, shape_class c e)) (λ h. rw h n)))))
-          (λ e. rw (e, no_shape_lem p c t e) (sym (or_false (is_named f))))
+          by_test (eqb c class.polygon) (λ e. rw e (held_more kind.Polygon (kind_holds p kind.Polygon t) f)) λ e.
+          by_test (eqb c class.circle)
+          (λ i. rw (e, i) (held_more kind.Circle (kind_holds p kind.Circle t) f))
+          (λ i. rw (e, i) (sym (or_false (is_some f.first))))
 
   -- all polygons and circles are counted
   all_counted :

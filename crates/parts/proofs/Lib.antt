@@ -1,9 +1,10 @@
+pub mod Results
 pub mod Lookups
 pub mod AlongParts
 pub mod AreaOrder
 pub mod Keeping
 pub mod KeptShapes
-pub mod CountBounds
+pub mod Loop
 pub mod Sights
 pub mod Meant
 pub mod TrueReasons

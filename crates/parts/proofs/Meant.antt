@@ -4,15 +4,14 @@ use mathlib.Core.Bool.{cond}
 use mathlib.Core.List.{List}
 use Prim.Native.Nat.{ℕ, ◌+◌, ◌-◌, ◌≤◌, ◌<◌}
 use native.Mathlib.Omega.{arith}
-use borrow.Author.Tests.{eqb-true, eqb-false, lt-ltb}
+use borrow.Author.Tests.{eqb-true, eqb-false, lt-ltb, ne_eqb}
 use lib.Dec.{eqb, ltb}
+use Rattle.std.specs.Prelude.{Option, Some, None, is_some}
 use Rattle.text.specs.Logic.{by_test}
 use Rattle.text.specs.Answers.{Answer, gives, refuses, answer_and_then, giving}
 use Rattle.coordinates.specs.declared.Place.{Place}
 use Rattle.coordinates.specs.Place.{in_range}
-use Rattle.sheet.specs.declared.Lasting.{Lasting}
-use Rattle.sheet.specs.declared.Parts.{Parts}
-use Rattle.sheet.specs.declared.Parts.TheVariants as parts
+use Rattle.sheet.specs.declared.Part.{Part}
 use Rattle.sheet.specs.declared.Span.{Span}
 use Rattle.sheet.specs.declared.Found.{Found}
 use Rattle.schema.specs.Classes as class
@@ -20,20 +19,15 @@ use Rattle.document.specs.Elements.{Element, total, fold, gather, answer}
 use Rattle.document.specs.Tags.{max_infos}
 use Rattle.document.specs.Documents.{document_of}
 use Rattle.document.proofs.Schema.{parts_limit}
-use Rattle.parts.specs.declared.Facts.{Facts}
-use Rattle.parts.specs.declared.Shapes.{Shapes}
-use Rattle.parts.specs.declared.Outcome.{Outcome}
-use Rattle.parts.specs.declared.Outcome.TheVariants as outcome
-use Rattle.parts.specs.declared.Reading.{Reading}
-use Rattle.parts.specs.declared.View.{View}
-use Rattle.parts.specs.declared.View.TheVariants as view
+use Rattle.parts.specs.declared.texts.Facts.{Facts}
+use Rattle.parts.specs.declared.areas.Shapes.{Shapes}
+use Rattle.parts.specs.declared.ShapeAt.{ShapeAt}
 use Rattle.parts.specs.Elements.{alert_of, part_of, look_up, text_span}
 use Rattle.parts.specs.Sheets.{lasts_of, part_facts, sheet_with, parts_of, sheet_of_part, cap_sheet}
 use Rattle.parts.specs.Areas.{areas_of}
 use Rattle.parts.specs.Places.{side_of, any_shape, any_holds, asked_about, cap_place}
 use Rattle.parts.specs.Reasons.{Reason, side_by, reason_of, reason_in, cap_why}
-use Rattle.parts.specs.Gathering.{kept, alert_span, part_span, noted, no_facts, accepted_with, refused_with, reading_of, is_named, looked, seen, no_shapes, view_of, named_shape}
-use Rattle.parts.proofs.Lookups.{there_part}
+use Rattle.parts.specs.Gathering.{kept, alert_span, part_span, noted, no_facts, reading_of, looked, seen, no_shapes, view_of}
 use Rattle.parts.proofs.AreaOrder.{between_areas, Placed, part_placed}
 use Rattle.parts.proofs.Keeping.{alert_kept, part_kept, seen_part}
 use Rattle.parts.proofs.KeptShapes.{kept_first, kept_count, any_counted, any_named}
@@ -57,7 +51,7 @@ module _ (l : List ℕ) (t : ℕ) (alert part alert' part' : ℕ → Span)
         part-is class.expires (omega arith) (omega arith),
       )
 
-  part_same : (n : ℕ) (d : Lasting) → part_facts l n t part d ≡ part_facts l n t part' d
+  part_same : (n : ℕ) (d : Option ℕ) → part_facts l n t part d ≡ part_facts l n t part' d
   part_same n d =
       rw (
         part-is class.urgency (omega arith) (omega arith),
@@ -65,7 +59,7 @@ module _ (l : List ℕ) (t : ℕ) (alert part alert' part' : ℕ → Span)
         part-is class.certainty (omega arith) (omega arith),
       )
 
-  with_same : (ps : Parts) → sheet_with l alert ps ≡ sheet_with l alert' ps
+  with_same : (ps : Option Part) → sheet_with l alert ps ≡ sheet_with l alert' ps
   with_same ps =
       rw (
         alert-is class.msg_type (omega arith) (omega arith),
@@ -78,7 +72,7 @@ module _ (l : List ℕ) (t : ℕ) (alert part alert' part' : ℕ → Span)
   parts_same : (n : ℕ) → parts_of l t alert part n ≡ parts_of l t alert' part' n
   parts_same n =
       by_test (eqb n 0) (λ e. rw e) λ e.
-      rw e (giving_same _ _ (λ d. ap parts.OnePart (part_same n d)) (lasts_of l alert part) ∙ ap (giving _) lasts_same)
+      rw e (giving_same _ _ (λ d. ap Some (part_same n d)) (lasts_of l alert part) ∙ ap (giving _) lasts_same)
 
   sheet_same : (n : ℕ) → sheet_of_part l n t alert part ≡ sheet_of_part l n t alert' part'
   sheet_same n = go (look_up n t)
@@ -87,28 +81,25 @@ module _ (l : List ℕ) (t : ℕ) (alert part alert' part' : ℕ → Span)
       go (gives k) = giving_same _ _ with_same (parts_of l t alert part k) ∙ ap (giving (sheet_with l alert')) (parts_same k)
       go (refuses k p) = refl
 
--- the sheet of a part that is there is that of the part asked for
-pub there_drawn :
-    (l : List ℕ) (n t k : ℕ) (alert part : ℕ → Span) → look_up n t ≡ gives k
-    → giving (sheet_with l alert) (parts_of l t alert part n) ≡ sheet_of_part l n t alert part
-there_drawn l n t k alert part q = rw (q, there_part n t k q)
+-- the sheet of a part that is there, by how long it lasts
+pub sheet_drawn :
+    (l : List ℕ) (n t k : ℕ) (alert part : ℕ → Span) (d : Option ℕ) → gives k ≡ look_up n t → (k ≡ 0 → ⊥) → gives d ≡ lasts_of l alert part
+    → gives (sheet_with l alert (Some (part_facts l k t part d))) ≡ sheet_of_part l n t alert part
+sheet_drawn l n t k alert part d q h e = rw (← q, ne_eqb k 0 h, ← e)
 
 -- what a reading of part n of the document l means for its sheet x
-abbrev pub SheetBy : List ℕ → ℕ → Answer Found → Facts → Outcome → Type 0
-SheetBy l n x f (outcome.Accepted t) = (t ≤ max_infos) × (sheet_of_part l n t (alert_span f) (part_span f) ≡ x)
-SheetBy l n x f (outcome.Refused k p) = refuses k p ≡ x
+abbrev pub SheetBy : List ℕ → ℕ → Answer Found → Answer (ℕ × Facts) → Type 0
+SheetBy l n x (gives r) = (r.0 ≤ max_infos) × (sheet_of_part l n r.0 (alert_span r.1) (part_span r.1) ≡ x)
+SheetBy l n x (refuses k p) = refuses k p ≡ x
 
-pub reading_sheet : (n : ℕ) (l : List ℕ) (r : Reading) (o : Outcome) → r ≡ reading_of n l → r.outcome ≡ o → SheetBy l n (cap_sheet n l) r.facts o
+pub reading_sheet : (n : ℕ) (l : List ℕ) → SheetBy l n (cap_sheet n l) (reading_of n l)
 unfolding reading_of cap_sheet
-reading_sheet n l r o e q = rw (← q, e) (go (document_of l) refl)
+reading_sheet n l = go (document_of l) refl
   where
-    reading : Answer (List Element) → Reading
-    reading v = answer accepted_with refused_with (noted n) 0 no_facts v
-
     drawn_from : Answer (List Element) → Answer Found
     drawn_from v = answer_and_then v (λ es. sheet_of_part l n (total es) (text_span (alert_of es)) (text_span (part_of n es)))
 
-    go : (v : Answer (List Element)) → document_of l ≡ v → SheetBy l n (drawn_from v) (reading v).facts (reading v).outcome
+    go : (v : Answer (List Element)) → document_of l ≡ v → SheetBy l n (drawn_from v) (answer (λ t f. gives (t, f)) refuses (noted n) 0 no_facts v)
     go (gives es) d =
         let z : 0 + total es ≡ total es = omega arith in
         let f = gather (noted n) 0 no_facts es in (
@@ -120,34 +111,48 @@ reading_sheet n l r o e q = rw (← q, e) (go (document_of l) refl)
 
 -- ---- places
 
--- what a view of part n means for the reason x
-abbrev pub WhyBy : Place → ℕ → Answer Reason → View → Type 0
-WhyBy p n x (view.Accepted t f) = asked_about p n t (reason_of (named_shape f) f.count) ≡ x
-WhyBy p n x (view.Refused k q) = refuses k q ≡ x
+-- what a reading of part n means for the reason x
+abbrev pub WhyBy : Place → ℕ → Answer Reason → Answer (ℕ × Shapes) → Type 0
+WhyBy p n x (gives r) = asked_about p n r.0 (reason_of r.1.first r.1.count) ≡ x
+WhyBy p n x (refuses k q) = refuses k q ≡ x
 
-pub view_why : (n : ℕ) (p : Place) (l : List ℕ) (v r : View) → v ≡ view_of n p l → v ≡ r → WhyBy p n (cap_why n p l) r
+view_why_by : (n : ℕ) (p : Place) (l : List ℕ) → WhyBy p n (cap_why n p l) (view_of n p l)
 unfolding view_of cap_why
-view_why n p l v r e q = rw (← q, e) (go (document_of l) refl)
+view_why_by n p l = go (document_of l) refl
   where
     why_from : Answer (List Element) → Answer Reason
     why_from v = answer_and_then v (λ es. asked_about p n (total es) (reason_in p (areas_of (part_of n es))))
 
-    go : (d : Answer (List Element)) → document_of l ≡ d → WhyBy p n (why_from d) (answer view.Accepted view.Refused (seen n p) 0 no_shapes d)
+    go : (d : Answer (List Element)) → document_of l ≡ d → WhyBy p n (why_from d) (answer (λ t f. gives (t, f)) refuses (seen n p) 0 no_shapes d)
     go (gives es) d =
         let z : 0 + total es ≡ total es = omega arith in
         let placed = part_placed l es d n in
         rw (z, seen_part p n es, kept_first p (part_of n es) placed, kept_count p (part_of n es) placed)
     go (refuses k q) d = refl
 
+module _ (n : ℕ) (l : List ℕ) where
+  -- by the answer of the reading, where t parts were read and f gathered
+  pub reading_limit : (t : ℕ) (f : Facts) → gives (t, f) ≡ reading_of n l → t ≤ max_infos
+  reading_limit t f e = (rw (← e) at (reading_sheet n l)).0
+
+  pub reading_drawn : (t : ℕ) (f : Facts) → gives (t, f) ≡ reading_of n l → sheet_of_part l n t (alert_span f) (part_span f) ≡ cap_sheet n l
+  reading_drawn t f e = (rw (← e) at (reading_sheet n l)).1
+
+  pub reading_refused : (k q : ℕ) → refuses k q ≡ reading_of n l → refuses k q ≡ cap_sheet n l
+  reading_refused k q e = rw (← e) at (reading_sheet n l)
+
+  pub view_why : (p : Place) (t : ℕ) (f : Shapes) → gives (t, f) ≡ view_of n p l → asked_about p n t (reason_of f.first f.count) ≡ cap_why n p l
+  view_why p t f e = rw (← e) at (view_why_by n p l)
+
+  pub view_refused : (p : Place) (k q : ℕ) → refuses k q ≡ view_of n p l → refuses k q ≡ cap_why n p l
+  view_refused p k q e = rw (← e) at (view_why_by n p l)
+
 -- ---- the answer for a place is what the reason says
 
-side_by_lem : (f : Shapes) → side_by (reason_of (named_shape f) f.count) ≡ side_of (is_named f) (ltb 0 f.count)
-side_by_lem f =
-    by_test (eqb f.class 0)
-    (λ h.
-    rw h
-    (by_test (eqb f.count 0) (λ e. rw (eqb-true f.count 0 e)) (λ e. rw (e, lt-ltb 0 f.count (omega (arith, eqb-false f.count 0 e))))))
-    (λ h. rw h)
+side_by_lem : (o : Option ShapeAt) (n : ℕ) → side_by (reason_of o n) ≡ side_of (is_some o) (ltb 0 n)
+side_by_lem (Some s) n = refl
+side_by_lem None n =
+    by_test (eqb n 0) (λ e. rw (eqb-true n 0 e)) (λ e. rw (e, lt-ltb 0 n (omega (arith, eqb-false n 0 e))))
 
 module _ {A B : Type 0} (g : A → B) (p : Place) (n t : ℕ) (x : A) where
   asked_giving : giving g (asked_about p n t x) ≡ asked_about p n t (g x)
@@ -164,7 +169,7 @@ unfolding cap_why cap_place
 why_place n p l = go (document_of l) refl
   where
     side : (es : List Element) → Placed between_areas es → side_by (reason_in p (areas_of es)) ≡ side_of (any_holds p es) (any_shape es)
-    side es k = rw (← kept_first p es k, ← kept_count p es k, ← any_named p es, ← any_counted p es) (side_by_lem (fold (looked p) no_shapes es))
+    side es k = rw (← kept_first p es k, ← kept_count p es k, ← any_named p es, ← any_counted p es) (side_by_lem (fold (looked p) no_shapes es).first (fold (looked p) no_shapes es).count)
 
     go :
         (d : Answer (List Element)) → document_of l ≡ d

@@ -2,7 +2,7 @@
 use mathlib.Core.Path.{◌≡◌, refl, sym, ◌∙◌}
 use mathlib.Core.Bool.{Bool, true, false, cond}
 use mathlib.Core.List.{List, [], ◌∷◌}
-use mathlib.Core.Option.{Option, none, some}
+use Rattle.std.specs.Prelude.{Option, Some, None}
 use Prim.Native.Nat.{ℕ, zero, suc, ◌+◌, ◌-◌, ◌<◌, ◌≤◌}
 use native.Mathlib.Nat.{sub_self}
 use native.Mathlib.Omega.{arith}
@@ -31,12 +31,12 @@ module _ {A B : Type 0} (d : A) (f : ℕ → A → Option B) where
 
   -- it gives nothing before the position n
   abbrev NoneTo : (i : ℕ) → List A → (n : ℕ) → Type 0
-  NoneTo i xs n = (q : ℕ) → i ≤ q → q < n → given_at i xs q ≡ none
+  NoneTo i xs n = (q : ℕ) → i ≤ q → q < n → given_at i xs q ≡ None
 
   -- what it gives first
   data Along (i : ℕ) (xs : List A) : Option B → Type 0 where
-    found : {s : B} (q : ℕ) → i ≤ q → q < i + length xs → given_at i xs q ≡ some s → NoneTo i xs q → Along i xs (some s)
-    nothing : NoneTo i xs (i + length xs) → Along i xs none
+    found : {s : B} (q : ℕ) → i ≤ q → q < i + length xs → given_at i xs q ≡ Some s → NoneTo i xs q → Along i xs (Some s)
+    nothing : NoneTo i xs (i + length xs) → Along i xs None
 
   module _ (i : ℕ) (x : A) (xs : List A) where
     here : f i x ≡ given_at i (x ∷ xs) i
@@ -45,19 +45,19 @@ module _ {A B : Type 0} (d : A) (f : ℕ → A → Option B) where
     later : (q : ℕ) → i + 1 ≤ q → given_at i (x ∷ xs) q ≡ given_at (i + 1) xs q
     later q l = let z : q - i ≡ suc (q - (i + 1)) = omega arith in rw z
 
-    none_more : (n : ℕ) → f i x ≡ none → NoneTo (i + 1) xs n → NoneTo i (x ∷ xs) n
+    none_more : (n : ℕ) → f i x ≡ None → NoneTo (i + 1) xs n → NoneTo i (x ∷ xs) n
     none_more n e h q l u =
         by_test (eqb q i)
         (λ t. rw (eqb-true q i t) (sym here ∙ e))
         (λ t. let g : i + 1 ≤ q = omega (arith, eqb-false q i t) in later q g ∙ h q g u)
 
     along_next : (o r : Option B) → f i x ≡ o → Along (i + 1) xs r → Along i (x ∷ xs) (or_else o r)
-    along_next (some s) r e h = found i (omega arith) (omega arith) (sym here ∙ e) (λ q l u. absurd (omega arith))
-    along_next none r e (found q l u g h) = found q (omega arith) (omega arith) (later q l ∙ g) (none_more q e h)
-    along_next none r e (nothing h) = nothing (λ q l u. none_more _ e h q l (omega arith))
+    along_next (Some s) r e h = found i (omega arith) (omega arith) (sym here ∙ e) (λ q l u. absurd (omega arith))
+    along_next None r e (found q l u g h) = found q (omega arith) (omega arith) (later q l ∙ g) (none_more q e h)
+    along_next None r e (nothing h) = nothing (λ q l u. none_more _ e h q l (omega arith))
 
   -- a search that goes on to the next position where f gives nothing
-  module _ (search : ℕ → List A → Option B) (at_end : (i : ℕ) → search i [] ≡ none)
+  module _ (search : ℕ → List A → Option B) (at_end : (i : ℕ) → search i [] ≡ None)
       (at_next : (i : ℕ) (x : A) (xs : List A) → search i (x ∷ xs) ≡ or_else (f i x) (search (i + 1) xs)) where
     along : (i : ℕ) (xs : List A) → Along i xs (search i xs)
     along i [] = rw (at_end i) (nothing (λ q l u. absurd (omega arith)))
@@ -79,7 +79,7 @@ module _ (p : Place) where
 
   module _ (a : ℕ) (x : Area) where
     abbrev if_held : ShapeKind → ℕ → List ℕ → Option ShapeAt
-    if_held k q t = cond (kind_holds p k t) (some (record { area = a; kind = k; position = q })) none
+    if_held k q t = cond (kind_holds p k t) (Some (record { area = a; kind = k; position = q })) None
 
     abbrev AlongKind : ShapeKind → Option ShapeAt → Type 0
     AlongKind k o = Along [] (if_held k) 1 (of_kind k x) o
@@ -94,8 +94,8 @@ module _ (p : Place) where
 
     -- the first polygon that holds the place, or else the first circle
     data InArea : Option ShapeAt → Type 0 where
-      one : {s : ShapeAt} (k : ShapeKind) → AlongKind k (some s) → (k ≡ kind.Circle → NoneOf x kind.Polygon) → InArea (some s)
-      neither : ((k : ShapeKind) → NoneOf x k) → InArea none
+      one : {s : ShapeAt} (k : ShapeKind) → AlongKind k (Some s) → (k ≡ kind.Circle → NoneOf x kind.Polygon) → InArea (Some s)
+      neither : ((k : ShapeKind) → NoneOf x k) → InArea None
 
     both : NoneOf x kind.Polygon → NoneOf x kind.Circle → (k : ShapeKind) → NoneOf x k
     both h g kind.Polygon = h
@@ -109,10 +109,10 @@ module _ (p : Place) where
     in_area : InArea (first_in_area p a x)
     in_area = or_else_lem (along_kind kind.Polygon) (along_kind kind.Circle)
 
-    none_in : first_in_area p a x ≡ none → (k : ShapeKind) → NoneOf x k
+    none_in : first_in_area p a x ≡ None → (k : ShapeKind) → NoneOf x k
     none_in e = go (rw e at in_area)
       where
-        go : InArea none → (k : ShapeKind) → NoneOf x k
+        go : InArea None → (k : ShapeKind) → NoneOf x k
         go (neither h) = h
 
   -- ---- the areas of a part
@@ -129,7 +129,7 @@ module _ (p : Place) where
     none_to : (n : ℕ) → NoneTo no_area (first_in_area p) 1 xs n → (u : ShapeAt) → Stands xs u → u.area < n → holds_at p xs u ≡ false
     none_to n h u w l = none_in u.area _ (h u.area w.area.0 l) u.kind u.position w.position.0 (omega (arith, w.position.1))
 
-    none_found : AlongAreas none → (u : ShapeAt) → Stands xs u → holds_at p xs u ≡ false
+    none_found : AlongAreas None → (u : ShapeAt) → Stands xs u → holds_at p xs u ≡ false
     none_found (nothing h) u w = none_to _ h u w (omega (arith, w.area.1))
 
     record FirstHeld (s : ShapeAt) : Type 0 where
@@ -137,13 +137,13 @@ module _ (p : Place) where
       holds : holds_at p xs s ≡ true
       before : (u : ShapeAt) → Stands xs u → Before u s → holds_at p xs u ≡ false
 
-    first_found : {s : ShapeAt} → AlongAreas (some s) → FirstHeld s
+    first_found : {s : ShapeAt} → AlongAreas (Some s) → FirstHeld s
     first_found (found a l b e h) = in_one (rw e at (in_area a x))
       where
         x : Area
         x = get_or xs (a - 1) no_area
 
-        in_one : {s : ShapeAt} → InArea a x (some s) → FirstHeld s
+        in_one : {s : ShapeAt} → InArea a x (Some s) → FirstHeld s
         in_one {s} (one k (found q m c t g) n) =
             let holds = first_arm _ _ _ (holds_in x k q) t (λ e. clash (cc)) in
             let same : record { area = a; kind = k; position = q } ≡ s = cc holds.1 in
@@ -166,17 +166,17 @@ shapes_le (x ∷ xs) kind.Circle zero = omega arith
 shapes_le (x ∷ xs) k (suc i) = omega (arith, shapes_le xs k i)
 
 -- what a reason was made from
-held_by : (o : Option ShapeAt) (n : ℕ) (s : ShapeAt) → reason_of o n ≡ held s → o ≡ some s
-held_by (some u) n s e = cc
-held_by none n s e = clash (let t = first_arm _ _ _ (eqb n 0) e (λ q. clash (cc)) in cc)
+held_by : (o : Option ShapeAt) (n : ℕ) (s : ShapeAt) → reason_of o n ≡ held s → o ≡ Some s
+held_by (Some u) n s e = cc
+held_by None n s e = clash (let t = first_arm _ _ _ (eqb n 0) e (λ q. clash (cc)) in cc)
 
-tried_by : (o : Option ShapeAt) (n m : ℕ) → reason_of o n ≡ tried m → (o ≡ none) × (m ≡ n)
-tried_by (some u) n m e = clash (cc)
-tried_by none n m e = (refl, let t = rw (second_arm _ _ _ (eqb n 0) e (λ q. clash (cc))) at e in cc)
+tried_by : (o : Option ShapeAt) (n m : ℕ) → reason_of o n ≡ tried m → (o ≡ None) × (m ≡ n)
+tried_by (Some u) n m e = clash (cc)
+tried_by None n m e = (refl, let t = rw (second_arm _ _ _ (eqb n 0) e (λ q. clash (cc))) at e in cc)
 
 shapeless_by : (o : Option ShapeAt) (n : ℕ) → reason_of o n ≡ shapeless → n ≡ 0
-shapeless_by (some u) n e = clash (cc)
-shapeless_by none n e = eqb-true n 0 (first_arm _ _ _ (eqb n 0) e (λ q. clash (cc))).0
+shapeless_by (Some u) n e = clash (cc)
+shapeless_by None n e = eqb-true n 0 (first_arm _ _ _ (eqb n 0) e (λ q. clash (cc))).0
 
 pub true_reason : (p : Place) (xs : List Area) → TrueReason p xs
 true_reason p xs = record {

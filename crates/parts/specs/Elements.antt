@@ -1,11 +1,9 @@
 -- The elements of a part, and where the texts stand that a sheet is drawn from.
-use Rattle.std.specs.Prelude.{cond, ◌&&◌, ◌||◌, List, [], ◌∷◌, ℕ, ◌+◌, eqb, leb, length}
+use Rattle.std.specs.Prelude.{cond, ◌&&◌, ◌||◌, List, [], ◌∷◌, ℕ, ◌+◌, eqb, leb, length, Option, Some, None}
 use Rattle.text.specs.Answers.{Answer, gives, refuses}
 use Rattle.sheet.specs.declared.Span.{Span}
 use Rattle.schema.specs.Classes as class
 use Rattle.document.specs.Elements.{Element, opened, text, closed, is_start, total, fold}
-use Rattle.parts.specs.declared.Lookup.{Lookup}
-use Rattle.parts.specs.declared.Lookup.TheVariants.{There, Missing}
 
 -- "Parts are the info elements in their order, counted from 1": the elements after the start of the n-th info and before that of the next;
 -- for 0 those before the first. k infos have started before the elements
@@ -24,9 +22,9 @@ part_of n es = within 0 n es
 unfoldable pub look_up : (part total : ℕ) → Answer ℕ
 look_up part total = cond ((eqb part 0 && eqb total 0) || (leb 1 part && leb part total)) (gives part) (refuses 21 0)
 
-abbrev pub lookup_answer : Lookup → Answer ℕ
-lookup_answer (There n) = gives n
-lookup_answer Missing = refuses 21 0
+abbrev pub lookup_answer : Option ℕ → Answer ℕ
+lookup_answer (Some n) = gives n
+lookup_answer None = refuses 21 0
 
 -- where the text of an element stands
 abbrev pub span_of : ℕ → List ℕ → Span

@@ -5,4 +5,6 @@ pub mod Places
 pub mod Areas
 pub mod Reasons
 pub mod TrueReasons
+pub mod Reading
 pub mod Gathering
+pub mod Counts

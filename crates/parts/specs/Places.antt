@@ -1,15 +1,18 @@
 -- Whether a place is inside a part.
-use Rattle.std.specs.Prelude.{Bool, false, cond, ◌||◌, List, [], ◌∷◌, ℕ, eqb}
+use Rattle.std.specs.Prelude.{Bool, false, cond, ◌||◌, List, [], ◌∷◌, ℕ, eqb, Result, Ok, Err}
 use Rattle.text.specs.Answers.{Answer, gives, refuses, answer_and_then}
 use Rattle.coordinates.specs.declared.Place.{Place}
 use Rattle.coordinates.specs.Place.{in_range}
 use Rattle.polygon.specs.Polygon.{polygon_holds}
 use Rattle.circle.specs.Circle.{circle_holds}
 use Rattle.schema.specs.Classes as class
+use Rattle.rules.specs.Faults.{fault_number}
 use Rattle.document.specs.Elements.{Element, opened, text, closed, total}
 use Rattle.document.specs.Documents.{document_of}
-use Rattle.parts.specs.declared.CapPlace.{CapPlace}
-use Rattle.parts.specs.declared.CapPlace.TheVariants as placed
+use Rattle.parts.specs.declared.Side as code
+use Rattle.parts.specs.declared.Side.TheVariants as side
+use Rattle.parts.specs.declared.PlaceError.{PlaceError}
+use Rattle.parts.specs.declared.PlaceError.TheVariants as error
 use Rattle.parts.specs.Elements.{part_of, look_up}
 
 -- a shape is the text of a polygon or of a circle
@@ -55,10 +58,10 @@ asked_about p n total x = answer_and_then (look_up n total) (λ k. cond (in_rang
 unfoldable pub cap_place : ℕ → Place → List ℕ → Answer Side
 cap_place n p l = answer_and_then (document_of l) (λ es. asked_about p n (total es) (side_of (any_holds p (part_of n es)) (any_shape (part_of n es))))
 
-abbrev pub place_answer : CapPlace → Answer Side
-place_answer placed.Inside = gives inside
-place_answer placed.Outside = gives outside
-place_answer placed.NoShape = gives no_shape
-place_answer placed.NotThere = refuses 21 0
-place_answer placed.OutOfRange = refuses 6 0
-place_answer (placed.Refused k q) = refuses k q
+abbrev pub place_answer : Result code.Side PlaceError → Answer Side
+place_answer (Ok side.Inside) = gives inside
+place_answer (Ok side.Outside) = gives outside
+place_answer (Ok side.NoShape) = gives no_shape
+place_answer (Err error.NotThere) = refuses 21 0
+place_answer (Err error.OutOfRange) = refuses 6 0
+place_answer (Err (error.Document r)) = refuses (fault_number r.fault) r.offset

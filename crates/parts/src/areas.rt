@@ -1,240 +1,192 @@
 // Polygons and circles of a part.
-ghost use Rattle.std.specs.Prelude.{◌≡◌, true, cond};
+ghost use Rattle.std.specs.Prelude.{◌≡◌, OnOk};
 ghost use Rattle.text.specs.Answers.{gives};
-ghost use Rattle.coordinates.specs.Answers.{inclusion_answer};
+ghost use Rattle.document.specs.Elements.{fold};
 ghost use Rattle.document.specs.Documents.{elements_of};
-ghost use Rattle.rules.specs.Texts.{text_rule};
-ghost use Rattle.parts.specs.declared.Shown.TheVariants.{Nothing, Shape};
-ghost use Rattle.parts.specs.Places.{is_shape, shape_holds, asked_about};
+ghost use Rattle.parts.specs.Places.{asked_about};
 ghost use Rattle.parts.specs.Reasons.{reason_of, why_answer};
-ghost use Rattle.parts.specs.Gathering.{shape_answer, shown_text, shown_in, shown_tag, sight_by, sight_of, with_area, with_shape, last_position, named, added, view_of, kind_of, named_shape, most, AtMost};
+ghost use Rattle.parts.specs.Reading.{answer_of, event_answer, most};
+ghost use Rattle.parts.specs.Gathering.{shape_answer, answer_at, kind_of, with_shape, looked, seen, view_of, AtMost};
+ghost use Rattle.parts.specs.Counts.{seen_more, at_most_wider};
 
-use crate::{CapWhy, Lookup, ShapeAt, ShapeKind, Shapes, Shown, Sight, View};
-use coordinates::{Inclusion, Place};
-use document::{Event, Step};
+use crate::reading::{Question, read, test};
+use crate::{PlaceError, ShapeAt, ShapeKind, Why, look_up};
+use coordinates::Place;
+use document::{Event, Refusal};
+use rules::Fault;
 use schema::class;
 
-// Whether the shape that a text of a class writes holds a place. A class that is no polygon's is taken for a circle's.
-fn shape_answer(place: Place, class: usize, t: &[u8]) -> Inclusion
-    ensures { inclusion_answer result ≡ shape_answer place class t.now }
-{
-    if class == class::POLYGON {
-        return polygon::polygon_holds(t, place);
-    }
-    circle::circle_holds(t, place)
+// The shapes of the part asked for: how many areas have started, how many polygons and circles the last of them has, and how many shapes there are in
+// all; and the first shape that holds the place.
+#[derive(Clone, Copy)]
+pub struct Shapes {
+    pub areas: usize,
+    pub polygons: usize,
+    pub circles: usize,
+    pub count: usize,
+    pub first: Option<ShapeAt>,
 }
 
-// What a text that starts at an offset shows, by the number that its rule gives.
-fn sight_by(number: u8, from: usize, shown: Shown) -> Sight
-    ensures { result ≡ sight_by number from shown }
+// The kind of shape that a text of a class writes, if it writes one.
+fn kind_of(class: usize) -> Option<ShapeKind>
+    ensures { result ≡ kind_of class }
 {
-    if number == 0 {
-        return Sight::Seen(shown);
-    }
-    Sight::Refused(number, from)
-}
-
-// A shape of the part, before which none holds the place: one reading of its text tests its rule and asks about the place.
-fn see_shape(place: Place, class: usize, from: usize, t: &[u8]) -> Sight
-    requires { is_shape class ≡ true }
-    ensures { result ≡ sight_by (text_rule class t.now) from (Shape class (shape_holds place class t.now)) }
-{
-    let inclusion = shape_answer(place, class, t);
-    match inclusion {
-        Inclusion::Inside => Sight::Seen(Shown::Shape(class, true)),
-        Inclusion::Outside => Sight::Seen(Shown::Shape(class, false)),
-        Inclusion::Fault => Sight::Refused(22, from),
+    match class {
+        class::POLYGON => Some(ShapeKind::Polygon),
+        class::CIRCLE => Some(ShapeKind::Circle),
+        _ => None,
     }
 }
 
-// A text that starts at an offset, of the part or not. A shape after one that holds the place, which is named, isn't asked about the place.
-fn see_text(asked: bool, named: bool, place: Place, class: usize, from: usize, t: &[u8]) -> Sight
-    ensures { result ≡ sight_by (text_rule class t.now) from (cond asked (shown_text place named class t.now) Nothing) }
+// Whether the shape of a kind whose text starts at an offset holds a place, or the refusal of its text.
+fn holds(place: Place, kind: ShapeKind, from: usize, t: &[u8]) -> Result<bool, Refusal>
+    ensures { answer_of result ≡ answer_at from (shape_answer place kind t.now) }
 {
-    if !(asked & ((class == class::POLYGON) | (class == class::CIRCLE))) {
-        return sight_by(rules::text_rule(class, t), from, Shown::Nothing);
-    }
-    if named {
-        return sight_by(rules::text_rule(class, t), from, Shown::Shape(class, false));
-    }
-    see_shape(place, class, from, t)
-}
-
-// An event that is no text, of the part or not.
-fn see_tag(asked: bool, event: Event) -> Shown
-    ensures { result ≡ shown_tag asked event }
-{
-    let Event::Opened(class, at) = event else {
-        return Shown::Nothing;
+    let holds = match kind {
+        ShapeKind::Polygon => polygon::polygon_holds(t, place),
+        ShapeKind::Circle => circle::circle_holds(t, place),
     };
-    if asked & (class == class::AREA) {
-        return Shown::Area;
-    }
-    Shown::Nothing
+    holds.ok_or(Refusal {
+        fault: Fault::Shape,
+        offset: from,
+    })
 }
 
-// What an event shows, of the part or not, where a shape before it is named or not; or the refusal of its text.
-fn see(s: &[u8], asked: bool, named: bool, place: Place, event: Event) -> Sight
-    ensures { result ≡ sight_of s.now event (shown_in asked place named (elements_of s.now event)) }
-{
-    let Event::Text(class, from, until) = event else {
-        return Sight::Seen(see_tag(asked, event));
-    };
-    see_text(asked, named, place, class, from, text::part(s, from, until))
-}
-
-// An area starts.
-fn start_area(f: Shapes) -> Shapes
-    requires { AtMost most f }
-    ensures { result ≡ with_area f }
-{
-    Shapes {
-        areas: f.areas + 1,
-        polygons: 0,
-        circles: 0,
-        count: f.count,
-        class: f.class,
-        area: f.area,
-        position: f.position,
-    }
-}
-
-// A shape of a class, counted.
-fn count_shape(class: usize, f: Shapes) -> Shapes
-    requires { AtMost most f }
-    ensures { result ≡ with_shape class f }
-{
-    Shapes {
-        areas: f.areas,
-        polygons: f.polygons + (class == class::POLYGON) as usize,
-        circles: f.circles + (class == class::CIRCLE) as usize,
-        count: f.count + 1,
-        class: f.class,
-        area: f.area,
-        position: f.position,
-    }
-}
-
-// The position, in its area, of the shape of a class that was counted last.
-fn last_position(class: usize, f: Shapes) -> usize
-    ensures { result ≡ last_position class f }
-{
-    if class == class::POLYGON {
-        return f.polygons;
-    }
-    f.circles
-}
-
-// The shape of a class that was counted last is named.
-fn name_shape(class: usize, f: Shapes) -> Shapes
-    ensures { result ≡ named class f }
-{
-    Shapes {
-        areas: f.areas,
-        polygons: f.polygons,
-        circles: f.circles,
-        count: f.count,
-        class,
-        area: f.areas,
-        position: last_position(class, f),
-    }
-}
-
-// The shapes with what a construct shows.
-fn add(shown: Shown, f: Shapes) -> Shapes
-    requires { AtMost most f }
-    ensures { result ≡ added shown f }
-{
-    match shown {
-        Shown::Nothing => f,
-        Shown::Area => start_area(f),
-        Shown::Shape(class, holds) => {
-            let counted = count_shape(class, f);
-            if holds {
-                return name_shape(class, counted);
-            }
-            counted
-        }
-    }
-}
-
-// Reads a document: what the shapes of a part say of a place. The steps' texts are tested here, by `see`, so that a shape's text is read once for its
-// rule and for the place.
-pub fn read_shapes(s: &[u8], part: usize, place: Place) -> View
-    ensures { result ≡ view_of part place s.now }
-{
-    let mut step = document::first_step(s);
-    let mut infos = 0;
-    let mut f = Shapes {
+impl Shapes {
+    // Nothing seen yet.
+    const NONE: Shapes = Shapes {
         areas: 0,
         polygons: 0,
         circles: 0,
         count: 0,
-        class: 0,
-        area: 0,
-        position: 0,
+        first: None,
     };
-    loop {
-        match step {
-            Step::Next(m, event) => {
-                infos = m.infos;
-                let sight = see(s, infos == part, f.class != 0, place, event);
-                match sight {
-                    Sight::Seen(shown) => {
-                        f = add(shown, f);
-                        step = document::constructs::read_step(s, m);
-                    }
-                    Sight::Refused(number, at) => {
-                        return View::Refused(number, at);
-                    }
+
+    // A shape of a kind comes, the first that holds the place or not.
+    fn add(&mut self, kind: ShapeKind, first: bool)
+        requires { AtMost most self.old }
+        ensures { self.new ≡ with_shape kind first self.old }
+    {
+        self.count += 1;
+        let position = match kind {
+            ShapeKind::Polygon => {
+                self.polygons += 1;
+                self.polygons
+            }
+            ShapeKind::Circle => {
+                self.circles += 1;
+                self.circles
+            }
+        };
+        if first {
+            self.first = Some(ShapeAt {
+                area: self.areas,
+                kind,
+                position,
+            });
+        }
+    }
+
+    // An event of the part. One reading of a shape's text tests its rule and asks about the place, unless a shape before it holds the place.
+    #[tactic(auto, unfolding(document::specs::Elements::fold), using(crate::proofs::Sights::text_none, crate::proofs::Sights::text_named, crate::proofs::Sights::text_first, crate::proofs::Sights::shape_kept, crate::proofs::Sights::shape_broken, crate::proofs::Results::on_ok, crate::proofs::Results::err_is))]
+    fn see(&mut self, s: &[u8], place: Place, event: Event) -> Result<(), Refusal>
+        requires { AtMost most self.old }
+        ensures tested { answer_of result ≡ event_answer s.now event }
+        ensures added { OnOk result (self.new ≡ fold (looked place) self.old (elements_of s.now event)) }
+    {
+        match event {
+            Event::Silent | Event::Closed(_) => Ok(()),
+            Event::Opened(class, _) => {
+                if class == class::AREA {
+                    self.areas += 1;
+                    self.polygons = 0;
+                    self.circles = 0;
                 }
+                Ok(())
             }
-            Step::Done => {
-                return View::Accepted(infos, f);
-            }
-            Step::Refused(number, at) => {
-                return View::Refused(number, at);
+            Event::Text(class, from, until) => {
+                let Some(kind) = kind_of(class) else {
+                    return test(s, event);
+                };
+                if self.first.is_some() {
+                    test(s, event)?;
+                    self.add(kind, false);
+                    return Ok(());
+                }
+                let first = holds(place, kind, from, text::part(s, from, until))?;
+                self.add(kind, first);
+                Ok(())
             }
         }
     }
 }
 
-fn kind_of(class: usize) -> ShapeKind
-    ensures { result ≡ kind_of class }
-{
-    if class == class::POLYGON {
-        return ShapeKind::Polygon;
+// The shapes of a part, and which of them holds a place.
+#[derive(Clone, Copy)]
+struct Around {
+    part: usize,
+    place: Place,
+}
+
+impl Question for Around {
+    type Facts = Shapes;
+
+    ghost noted = { λ q. seen q.part q.place };
+
+    ghost within = { AtMost };
+
+    ghost within_more = { λ q n k f x h. seen_more n f h q.part k q.place x };
+
+    ghost within_wider = { at_most_wider };
+
+    #[tactic(auto, using(crate::proofs::Sights::seen_other, crate::proofs::Results::on_ok))]
+    fn note(
+        &self,
+        s: &[u8],
+        infos: usize,
+        shapes: &mut Shapes,
+        event: Event,
+    ) -> Result<(), Refusal> {
+        if infos == self.part {
+            return shapes.see(s, self.place, event);
+        }
+        test(s, event)
     }
-    ShapeKind::Circle
+}
+
+// Reads a document: its number of parts, and what the shapes of a part say of a place.
+#[tactic(auto, unfolding(crate::specs::Gathering::view_of))]
+pub fn read_shapes(s: &[u8], part: usize, place: Place) -> Result<(usize, Shapes), Refusal>
+    ensures { answer_of result ≡ view_of part place s.now }
+{
+    read(s, &Around { part, place }, Shapes::NONE)
 }
 
 // The reason by what was seen.
-fn why_by(f: Shapes) -> CapWhy
-    ensures { why_answer result ≡ gives (reason_of (named_shape f) f.count) }
+fn why_by(shapes: &Shapes) -> Why
+    ensures { why_answer (Ok result) ≡ gives (reason_of shapes.now.first shapes.now.count) }
 {
-    if f.class != 0 {
-        return CapWhy::Inside(ShapeAt {
-            area: f.area,
-            kind: kind_of(f.class),
-            position: f.position,
-        });
+    match shapes.first {
+        Some(shape) => Why::Inside(shape),
+        None if shapes.count == 0 => Why::NoShape,
+        None => Why::Outside(shapes.count),
     }
-    if f.count == 0 {
-        return CapWhy::NoShape;
-    }
-    CapWhy::Outside(f.count)
 }
 
 // The reason for a place, by the number of parts and what was seen of the part asked for.
-pub fn why_in_part(part: usize, total: usize, f: Shapes, place: Place) -> CapWhy
-    ensures { why_answer result ≡ asked_about place part total (reason_of (named_shape f) f.count) }
+pub fn why_in_part(
+    part: usize,
+    total: usize,
+    shapes: &Shapes,
+    place: Place,
+) -> Result<Why, PlaceError>
+    ensures { why_answer result ≡ asked_about place part total (reason_of shapes.now.first shapes.now.count) }
 {
-    let found = crate::look_up(part, total);
-    let Lookup::There(number) = found else {
-        return CapWhy::NotThere;
+    let Some(_) = look_up(part, total) else {
+        return Err(PlaceError::NotThere);
     };
     if !coordinates::in_range(place) {
-        return CapWhy::OutOfRange;
+        return Err(PlaceError::OutOfRange);
     }
-    why_by(f)
+    Ok(why_by(shapes))
 }

@@ -3,47 +3,32 @@ ghost use Rattle.std.specs.Prelude.{◌≡◌};
 ghost use Rattle.text.specs.Answers.{gives, IfGiven};
 ghost use Rattle.time.specs.Time.{time_answer};
 ghost use Rattle.time.specs.Range.{InstantRange};
-ghost use Rattle.parts.specs.Sheets.{start_of, lasts_from, lasts_answer};
+ghost use Rattle.parts.specs.Sheets.{lasts_from, lasts_answer};
 
-use crate::Lasts;
 use sheet::Lasting;
-use time::Time;
 
 // The longest lasting time, in seconds.
 const LONGEST: i64 = 31_536_000;
 
-// The time from which a part lasts.
-pub fn start_of(effective: Time, sent: Time) -> Time
-    ensures { time_answer result ≡ start_of (time_answer effective) (time_answer sent) }
-{
-    match effective {
-        Time::Instant(i) => Time::Instant(i),
-        Time::Fault => sent,
-    }
-}
-
 // How long it is from one instant to another.
-fn lasts_between(start: i64, end: i64) -> Lasts
+fn lasts_between(start: i64, end: i64) -> Option<Lasting>
     requires { InstantRange start × InstantRange end }
     ensures { lasts_answer result ≡ lasts_from (gives start) (gives end) }
 {
     let seconds = end - start;
-    if (1 <= seconds) & (seconds <= LONGEST) {
-        return Lasts::Stated(Lasting::Seconds(seconds as u32));
+    if (1..=LONGEST).contains(&seconds) {
+        return Some(Some(seconds as u32));
     }
-    Lasts::OutOfRange
+    None
 }
 
 // How long a part lasts that starts at one time and expires at another.
-pub fn lasts_from(start: Time, expires: Time) -> Lasts
+pub fn lasts_from(start: Option<i64>, expires: Option<i64>) -> Option<Lasting>
     requires { IfGiven InstantRange (time_answer start) × IfGiven InstantRange (time_answer expires) }
     ensures { lasts_answer result ≡ lasts_from (time_answer start) (time_answer expires) }
 {
-    match expires {
-        Time::Fault => Lasts::Stated(Lasting::Unstated),
-        Time::Instant(end) => match start {
-            Time::Fault => Lasts::OutOfRange,
-            Time::Instant(i) => lasts_between(i, end),
-        },
-    }
+    let Some(end) = expires else {
+        return Some(None);
+    };
+    lasts_between(start?, end)
 }

@@ -10,191 +10,133 @@ ghost use Rattle.parts.specs.Places.{cap_place, place_answer};
 ghost use Rattle.parts.specs.Reasons.{side_by, cap_why, why_answer};
 
 use coordinates::Place;
-use sheet::{CapFacts, Lasting, Span};
+use document::Refusal;
+use sheet::{CapFacts, Span};
 
 mod areas; // areas.rt: polygons and circles
 mod lasting; // lasting.rt: how long a part lasts
+mod reading; // reading.rt: one reading of a document
 mod sheets; // sheets.rt: the sheet of a part
 mod texts; // texts.rt: where the texts of a sheet stand
 
-// How many classes, from a first one on, have the offsets of their texts kept.
-pub const KEPT: usize = 7;
-
-// Where the texts stand that a sheet is drawn from: those of the alert's own classes from identifier to scope, and those of the asked part's classes from
-// urgency to expires.
+// The sheet of a part, with its sender and name as parts of the document.
 #[derive(Clone, Copy)]
-pub struct Facts {
-    pub alert: [Span; KEPT],
-    pub part: [Span; KEPT],
+pub struct CapSheet {
+    pub facts: CapFacts,
+    pub sender: Span,
+    pub name: Span,
+}
+
+// Why there is no sheet: the part isn't there, its lasting time is out of range, or the document is refused.
+#[derive(Clone, Copy, Debug, PartialEq, Eq)]
+pub enum SheetError {
+    NotThere,
+    OutOfRange,
+    Document(Refusal),
+}
+
+impl From<Refusal> for SheetError {
+    ghost use Rattle.parts.specs.declared.SheetError.TheVariants.{Document};
+
+    ghost from_gives = { λ refusal e. e ≡ Document refusal };
+
+    fn from(refusal: Refusal) -> SheetError {
+        SheetError::Document(refusal)
+    }
 }
 
 // What a shape is.
-#[derive(Clone, Copy)]
+#[derive(Clone, Copy, Debug, PartialEq, Eq)]
 pub enum ShapeKind {
     Polygon,
     Circle,
 }
 
 // Which shape of a part: the position of its area among the part's areas, and its own among the shapes of its kind in that area, both from 1.
-#[derive(Clone, Copy)]
+#[derive(Clone, Copy, Debug, PartialEq, Eq)]
 pub struct ShapeAt {
     pub area: usize,
     pub kind: ShapeKind,
     pub position: usize,
 }
 
-// The shapes of the part asked for: how many areas have started, how many polygons and circles the last of them has, and how many shapes there are in
-// all; and of the first shape that holds the place its class, 0 for none, its area and its position. All are numbers, as a loop copies them.
-#[derive(Drop)]
-pub struct Shapes {
-    pub areas: usize,
-    pub polygons: usize,
-    pub circles: usize,
-    pub count: usize,
-    pub class: usize,
-    pub area: usize,
-    pub position: usize,
-}
-
-// What a construct shows of the part asked for: nothing that counts, the start of an area, or a shape of a class and whether it is the first that holds
-// the place.
-#[derive(Drop)]
-pub enum Shown {
-    Nothing,
-    Area,
-    Shape(usize, bool),
-}
-
-// What a construct shows, or the refusal of its text (number, offset).
-#[derive(Drop)]
-pub enum Sight {
-    Seen(Shown),
-    Refused(u8, usize),
-}
-
-// Whether the part asked for is there; part 0 is, where there are no parts.
-#[derive(Drop)]
-pub enum Lookup {
-    There(usize),
-    Missing,
-}
-
-// How long a part lasts, or that it isn't a lasting time.
-#[derive(Drop)]
-pub enum Lasts {
-    Stated(Lasting),
-    OutOfRange,
-}
-
-// The sheet of a part, with its sender and name as parts of the document; or why there is none: the part isn't there, its lasting time is out of range,
-// or the document is refused (number, offset).
-#[derive(Drop)]
-pub enum CapSheet {
-    Sheet(CapFacts, Span, Span),
-    NotThere,
-    OutOfRange,
-    Refused(u8, usize),
-}
-
-// Whether a part holds a place; or why there is no answer: the part isn't there, the place is out of range, or the document is refused (number, offset).
-#[derive(Drop)]
-pub enum CapPlace {
+// What a part says of a place.
+#[derive(Clone, Copy, Debug, PartialEq, Eq)]
+pub enum Side {
     Inside,
     Outside,
     NoShape,
-    NotThere,
-    OutOfRange,
-    Refused(u8, usize),
 }
 
-// Why a part holds a place, by the first shape that does, or doesn't, by the number of its shapes; or why there is no answer, as above.
-#[derive(Clone, Copy)]
-pub enum CapWhy {
+// Why a part holds a place, by the first shape that does, or doesn't, by the number of its shapes.
+#[derive(Clone, Copy, Debug, PartialEq, Eq)]
+pub enum Why {
     Inside(ShapeAt),
     Outside(usize),
     NoShape,
+}
+
+// Why a part says nothing of a place: the part isn't there, the place is out of range, or the document is refused.
+#[derive(Clone, Copy, Debug, PartialEq, Eq)]
+pub enum PlaceError {
     NotThere,
     OutOfRange,
-    Refused(u8, usize),
+    Document(Refusal),
 }
 
-// The number of parts of a document that was read to its end, or its refusal (number, offset).
-#[derive(Drop)]
-pub enum Outcome {
-    Accepted(usize),
-    Refused(u8, usize),
+impl From<Refusal> for PlaceError {
+    ghost use Rattle.parts.specs.declared.PlaceError.TheVariants.{Document};
+
+    ghost from_gives = { λ refusal e. e ≡ Document refusal };
+
+    fn from(refusal: Refusal) -> PlaceError {
+        PlaceError::Document(refusal)
+    }
 }
 
-// The outcome of reading a document, and where its texts stand; nowhere where it is refused.
-#[derive(Drop)]
-pub struct Reading {
-    pub outcome: Outcome,
-    pub facts: Facts,
-}
-
-// The number of parts of a document and what was seen of its shapes, or its refusal (number, offset).
-#[derive(Drop)]
-pub enum View {
-    Accepted(usize, Shapes),
-    Refused(u8, usize),
-}
-
-// The part asked for, by the number of parts.
-pub fn look_up(part: usize, total: usize) -> Lookup
+// The part asked for, by the number of parts; part 0 is there where there are none.
+#[tactic(auto, unfolding(crate::specs::Elements::look_up))]
+pub fn look_up(part: usize, total: usize) -> Option<usize>
     ensures { lookup_answer result ≡ look_up part total }
 {
-    if total == 0 {
-        if part == 0 {
-            return Lookup::There(0);
-        }
-        return Lookup::Missing;
+    if (part == 0 && total == 0) || (1 <= part && part <= total) {
+        return Some(part);
     }
-    if (1 <= part) & (part <= total) {
-        return Lookup::There(part);
-    }
-    Lookup::Missing
+    None
 }
 
 // The sheet of a part of a document.
-pub fn cap_sheet(s: &[u8], part: usize) -> CapSheet
+#[tactic(auto, using(crate::proofs::Meant::reading_drawn, crate::proofs::Meant::reading_limit, crate::proofs::Meant::reading_refused, crate::proofs::Results::err_is))]
+pub fn cap_sheet(s: &[u8], part: usize) -> Result<CapSheet, SheetError>
     ensures { sheet_answer result ≡ cap_sheet part s.now }
 {
-    let read = texts::read_facts(s, part);
-    let outcome = read.outcome;
-    match outcome {
-        Outcome::Accepted(total) => sheets::sheet_of_part(s, part, total, read.facts),
-        Outcome::Refused(number, offset) => CapSheet::Refused(number, offset),
-    }
+    let (total, facts) = texts::read_facts(s, part)?;
+    sheets::sheet_of_part(s, part, total, &facts)
 }
 
 // Why a place is inside a part of a document or outside it.
-pub fn cap_why(s: &[u8], part: usize, place: Place) -> CapWhy
+#[tactic(auto, using(crate::proofs::Meant::view_why, crate::proofs::Meant::view_refused, crate::proofs::Results::err_is))]
+pub fn cap_why(s: &[u8], part: usize, place: Place) -> Result<Why, PlaceError>
     ensures { why_answer result ≡ cap_why part place s.now }
 {
-    // a slice that is made here stays in registers; one that is handed in is fetched from memory for each construct
-    let view = areas::read_shapes(text::skip(s, 0), part, place);
-    match view {
-        View::Accepted(total, f) => areas::why_in_part(part, total, f, place),
-        View::Refused(number, offset) => CapWhy::Refused(number, offset),
-    }
+    let (total, shapes) = areas::read_shapes(s, part, place)?;
+    areas::why_in_part(part, total, &shapes, place)
 }
 
 // What a part says of a place, by the reason.
-pub fn side_of(why: CapWhy) -> CapPlace
+pub fn side_of(why: Result<Why, PlaceError>) -> Result<Side, PlaceError>
     ensures { place_answer result ≡ giving side_by (why_answer why) }
 {
-    match why {
-        CapWhy::Inside(shape) => CapPlace::Inside,
-        CapWhy::Outside(shapes) => CapPlace::Outside,
-        CapWhy::NoShape => CapPlace::NoShape,
-        CapWhy::NotThere => CapPlace::NotThere,
-        CapWhy::OutOfRange => CapPlace::OutOfRange,
-        CapWhy::Refused(number, offset) => CapPlace::Refused(number, offset),
+    match why? {
+        Why::Inside(_) => Ok(Side::Inside),
+        Why::Outside(_) => Ok(Side::Outside),
+        Why::NoShape => Ok(Side::NoShape),
     }
 }
 
 // Whether a place is inside a part of a document: what the reason says.
-pub fn cap_place(s: &[u8], part: usize, place: Place) -> CapPlace
+#[tactic(auto, using(crate::proofs::Meant::why_place))]
+pub fn cap_place(s: &[u8], part: usize, place: Place) -> Result<Side, PlaceError>
     ensures { place_answer result ≡ cap_place part place s.now }
 {
     side_of(cap_why(s, part, place))

@@ -1,97 +1,98 @@
 // Where the texts of a sheet stand, gathered while the document is read.
-ghost use Rattle.std.specs.Prelude.{◌≡◌, cond};
-ghost use Rattle.document.specs.Elements.{fold};
-ghost use Rattle.document.specs.Documents.{elements_of};
-ghost use Rattle.parts.specs.Gathering.{stored, noted, no_facts, refused_with, reading_of};
+ghost use Rattle.std.specs.Prelude.{◌≡◌, ◌+◌, ◌<◌, ◌≤◌};
+ghost use Rattle.schema.specs.Classes.{identifier, urgency};
+ghost use Rattle.parts.specs.Reading.{answer_of};
+ghost use Rattle.parts.specs.Gathering.{kept, stored, alert_span, part_span, noted, reading_of};
 
-use crate::{Facts, KEPT, Outcome, Reading};
-use document::{Event, Step};
+use crate::reading::{Question, read, test};
+use document::{Event, Refusal};
 use schema::class;
 use sheet::Span;
 
-// Nothing gathered yet.
-fn no_facts() -> Facts
-    ensures { result ≡ no_facts }
-{
-    let nowhere = Span { start: 0, len: 0 };
-    Facts {
-        alert: [nowhere; KEPT],
-        part: [nowhere; KEPT],
+// How many classes, from a first one on, have the offsets of their texts kept.
+const KEPT: usize = 7;
+
+// Where the texts stand that a sheet is drawn from: those of the alert's own classes from identifier to scope, and those of the asked part's classes from
+// urgency to expires.
+#[derive(Clone, Copy)]
+pub struct Facts {
+    pub alert: [Span; KEPT],
+    pub part: [Span; KEPT],
+}
+
+// No text, at no offset.
+const NOWHERE: Span = Span { start: 0, len: 0 };
+
+impl Facts {
+    // Nothing gathered yet.
+    const NONE: Facts = Facts {
+        alert: [NOWHERE; KEPT],
+        part: [NOWHERE; KEPT],
+    };
+
+    // Where the text of one of the alert's own classes stands.
+    pub fn alert(&self, class: usize) -> Span
+        requires { (identifier ≤ class) × (class < identifier + kept) }
+        ensures { result ≡ alert_span self.now class }
+    {
+        self.alert[class - class::IDENTIFIER]
+    }
+
+    // Where the text of one of the part's classes stands.
+    pub fn part(&self, class: usize) -> Span
+        requires { (urgency ≤ class) × (class < urgency + kept) }
+        ensures { result ≡ part_span self.now class }
+    {
+        self.part[class - class::URGENCY]
     }
 }
 
-// The spans of the classes from the first one on; where they are asked for, with that of a class put in.
-fn store(asked: bool, first: usize, class: usize, span: Span, spans: [Span; KEPT]) -> [Span; KEPT]
-    ensures { result ≡ cond asked (stored first class span spans) spans }
+// Puts the span of a class into those of the classes from the first one on, if it is one of them.
+fn store(spans: &mut [Span; KEPT], first: usize, class: usize, span: Span)
+    ensures { spans.new ≡ stored first class span spans.old }
 {
-    if asked & (first <= class) {
-        let i = class - first;
-        if i < KEPT {
-            let mut next = spans;
-            next[i] = span;
-            return next;
+    if first <= class && class - first < KEPT {
+        spans[class - first] = span;
+    }
+}
+
+// Where the texts stand that the sheet of a part is drawn from.
+#[derive(Clone, Copy)]
+struct Texts {
+    part: usize,
+}
+
+impl Question for Texts {
+    type Facts = Facts;
+
+    ghost noted = { λ q. noted q.part };
+
+    ghost within_more = { λ q n k f x h. tt };
+
+    ghost within_wider = { λ n m f h g. tt };
+
+    #[tactic(auto, unfolding(document::specs::Elements::fold), using(crate::proofs::Keeping::noted_other))]
+    fn note(&self, s: &[u8], infos: usize, facts: &mut Facts, event: Event) -> Result<(), Refusal> {
+        test(s, event)?;
+        let Event::Text(class, start, until) = event else {
+            return Ok(());
+        };
+        let len = text::part(s, start, until).len();
+        let span = Span { start, len };
+        if infos == 0 {
+            store(&mut facts.alert, class::IDENTIFIER, class, span);
         }
-    }
-    spans
-}
-
-// What an event adds for a part, where some infos have started.
-fn note(s: &[u8], part: usize, infos: usize, f: Facts, event: Event) -> Facts
-    ensures { result ≡ fold (noted part infos) f (elements_of s.now event) }
-{
-    match event {
-        Event::Silent => f,
-        Event::Opened(class, offset) => f,
-        Event::Text(class, from, until) => {
-            let len = text::part(s, from, until).len();
-            let span = Span {
-                start: from,
-                len: len,
-            };
-            let of_alert = f.alert;
-            let of_part = f.part;
-            Facts {
-                alert: store(infos == 0, class::IDENTIFIER, class, span, of_alert),
-                part: store(infos == part, class::URGENCY, class, span, of_part),
-            }
+        if infos == self.part {
+            store(&mut facts.part, class::URGENCY, class, span);
         }
-        Event::Closed(class) => f,
+        Ok(())
     }
 }
 
-// The reading of a refused document.
-fn refused(number: u8, offset: usize) -> Reading
-    ensures { result ≡ refused_with number offset }
+// Reads a document: its number of parts, and where the texts stand that the sheet of a part is drawn from.
+#[tactic(auto, unfolding(crate::specs::Gathering::reading_of))]
+pub fn read_facts(s: &[u8], part: usize) -> Result<(usize, Facts), Refusal>
+    ensures { answer_of result ≡ reading_of part s.now }
 {
-    Reading {
-        outcome: Outcome::Refused(number, offset),
-        facts: no_facts(),
-    }
-}
-
-// Reads a document: where the texts stand that the sheet of a part is drawn from.
-pub fn read_facts(s: &[u8], part: usize) -> Reading
-    ensures { result ≡ reading_of part s.now }
-{
-    let mut step = document::first_step(s);
-    let mut infos = 0;
-    let mut f = no_facts();
-    loop {
-        match step {
-            Step::Next(m, event) => {
-                infos = m.infos;
-                f = note(s, part, infos, f, event);
-                step = document::constructs::take_step(s, m);
-            }
-            Step::Done => {
-                return Reading {
-                    outcome: Outcome::Accepted(infos),
-                    facts: f,
-                };
-            }
-            Step::Refused(number, offset) => {
-                return refused(number, offset);
-            }
-        }
-    }
+    read(s, &Texts { part }, Facts::NONE)
 }

@@ -9,6 +9,8 @@ use borrow.Author.Tests.{eqb-true, eqb-false, eq-eqb, ne_eqb}
 use lib.Dec.{eqb, leb}
 use lib.ListN.{length, drop}
 use mir.Val.{bool_byte}
+use Rattle.std.specs.Prelude.{Option, Some, None, Ok}
+use Rattle.std.specs.Option.{is_some}
 use Rattle.text.specs.Answers.{Answer, gives, refuses, answer_and_then, giving, is_given, answer_number}
 use Rattle.text.specs.Logic.{by_test, cond_cases}
 use Rattle.text.specs.Tokens.{tokens}
@@ -16,18 +18,20 @@ use Rattle.coordinates.specs.declared.Place.{Place}
 use Rattle.coordinates.specs.Place.{pair_of}
 use Rattle.coordinates.proofs.Readers.{pair_cases}
 use Rattle.polygon.specs.declared.edges.Tally.{Tally}
-use Rattle.polygon.specs.declared.pairs.Next.{Next}
-use Rattle.polygon.specs.declared.pairs.Next.TheVariants as next
 use Rattle.polygon.specs.Polygon.{places_of, same_place, last_of, is_closed, is_ring, polygon_of, is_polygon, crosses, on_ring, crossings, in_ring, polygon_holds}
-use Rattle.polygon.specs.Edges.{edge_of, plus_of, tallied}
-use Rattle.polygon.specs.Next.{next_of}
-use Rattle.polygon.specs.Ring.{closes, verdict_of, answer_of}
+use Rattle.polygon.specs.Edges.{edge_of, plus_of}
+use Rattle.polygon.specs.Next.{at_end, not_pair, next_of}
+use Rattle.polygon.specs.Ring.{closes, over_edges_from, over_edges, walk_answer}
 use Rattle.polygon.proofs.Tallies.{none, xor_false, plus_none, plus_assoc}
 use Rattle.polygon.proofs.Tokens.{says}
 
 -- what a ring says
 abbrev ring_says : List Place → Place → Tally
 ring_says l p = record { on = on_ring l p; crossed = eqb (crossings l p % 2) 1 }
+
+-- the step that adds an edge
+abbrev pub adding : Place → Tally → Place → Place → Tally
+adding p sum a b = plus_of sum (edge_of a b p)
 
 odd_add : (t : Bool) (n : ℕ) → not (beq t (eqb (n % 2) 1)) ≡ eqb ((bool_byte t + n) % 2) 1
 odd_add false n = rw (zero-add n) (xor_false (eqb (n % 2) 1))
@@ -38,121 +42,126 @@ odd_add true n =
 
 -- ---- the edges
 
--- what the edges say together, after edges that said `sum`, of a ring that goes on from a; nothing more where none is counted
-unfoldable ring_with : Bool → Place → Place → Tally → List Place → Tally
-ring_with j p a sum [] = sum
-ring_with j p a sum (b ∷ l) = ring_with j p b (tallied j p sum a b) l
-
-ring_none : (p a : Place) (sum : Tally) (l : List Place) → ring_with false p a sum l ≡ sum
-unfolding ring_with
-ring_none p a sum [] = refl
-ring_none p a sum (b ∷ l) = ring_none p b sum l
-
-ring_all : (p a : Place) (sum : Tally) (l : List Place) → ring_with true p a sum l ≡ plus_of sum (ring_says (a ∷ l) p)
-unfolding ring_with on_ring crossings
+-- what the edges say together, after edges that said `sum`, of a ring that goes on from a
+ring_all : (p a : Place) (sum : Tally) (l : List Place) → over_edges_from (adding p) a sum l ≡ plus_of sum (ring_says (a ∷ l) p)
+unfolding over_edges_from on_ring crossings
 ring_all p a sum [] = sym (plus_none sum)
 ring_all p a sum (b ∷ l) =
     ring_all p b (plus_of sum (edge_of a b p)) l
     ∙ plus_assoc sum (edge_of a b p) (ring_says (b ∷ l) p)
     ∙ rw (odd_add (crosses a b p) (crossings (b ∷ l) p))
 
--- what a ring from q on says, where edges are counted
-ring_is : (j : Bool) (p q : Place) (ps : List Place) → (ring_with j p q none ps).on || (ring_with j p q none ps).crossed ≡ j && in_ring (q ∷ ps) p
-unfolding in_ring
-ring_is true p q ps = rw (ring_all p q none ps, xor_false (eqb (crossings (q ∷ ps) p % 2) 1))
-ring_is false p q ps = rw (ring_none p q none ps)
+-- and of a whole ring
+ring_is : (p : Place) (l : List Place) → (over_edges (adding p) none l).on || (over_edges (adding p) none l).crossed ≡ in_ring l p
+unfolding over_edges in_ring on_ring crossings
+ring_is p [] = refl
+ring_is p (q ∷ ps) = rw (ring_all p q none ps, xor_false (eqb (crossings (q ∷ ps) p % 2) 1))
 
--- ---- the tokens
+-- ---- the tokens, for any step h
 
--- the places that are left, after n places from `first` to `last` and edges that said `sum`, say of the place p
-abbrev judged : Bool → Place → Place → Place → ℕ → Tally → List Place → Answer Bool
-judged j p first last n sum ps = verdict_of (closes (n + length ps) first (last_of last ps)) (ring_with j p last sum ps)
+module _ {T : Type 0} (h : T → Place → Place → T) where
+  -- the places that are left, after n places from `first` to `last` and edges of which h made t, give the answer
+  abbrev judged : Place → Place → ℕ → T → List Place → Answer T
+  judged first last n t ps = cond (closes (n + length ps) first (last_of last ps)) (gives (over_edges_from h last t ps)) (refuses 22 0)
 
--- and so do the tokens that are left
-unfoldable pub holds_with : Bool → Place → Place → Place → ℕ → Tally → List (List ℕ) → Answer Bool
-holds_with j p first last n sum [] = verdict_of (closes n first last) sum
-holds_with j p first last n sum (t ∷ ts) = answer_and_then (pair_of t) (λ q. holds_with j p first q (n + 1) (tallied j p sum last q) ts)
+  -- and so do the tokens that are left
+  unfoldable pub walks_with : Place → Place → ℕ → T → List (List ℕ) → Answer T
+  walks_with first last n t [] = cond (closes n first last) (gives t) (refuses 22 0)
+  walks_with first last n t (k ∷ ks) = answer_and_then (pair_of k) (λ q. walks_with first q (n + 1) (h t last q) ks)
 
-module _ (j : Bool) (p first last : Place) (n : ℕ) (sum : Tally) where
-  -- a place q more
-  judged_more :
-      (q : Place) (a : Answer (List Place))
-      → answer_and_then a (judged j p first q (n + 1) (tallied j p sum last q)) ≡ answer_and_then (giving (λ l. q ∷ l) a) (judged j p first last n sum)
-  unfolding last_of ring_with
-  judged_more q (gives ps) = let k : n + 1 + length ps ≡ n + suc (length ps) = omega arith in rw k
-  judged_more q (refuses m i) = refl
+  module _ (first last : Place) (n : ℕ) (t : T) where
+    -- a place q more
+    judged_more :
+        (q : Place) (a : Answer (List Place))
+        → answer_and_then a (judged first q (n + 1) (h t last q)) ≡ answer_and_then (giving (λ l. q ∷ l) a) (judged first last n t)
+    unfolding last_of over_edges_from
+    judged_more q (gives ps) = let k : n + 1 + length ps ≡ n + suc (length ps) = omega arith in rw k
+    judged_more q (refuses m i) = refl
 
-  -- a token more, by its pair
-  holds_more :
-      (ts : List (List ℕ)) (f : Place → Answer Bool)
-      → ((q : Place) → f q ≡ answer_and_then (places_of ts) (judged j p first q (n + 1) (tallied j p sum last q)))
-      → (a : Answer Place) → answer_and_then a f ≡ answer_and_then (answer_and_then a (λ q. giving (λ l. q ∷ l) (places_of ts))) (judged j p first last n sum)
-  holds_more ts f h (gives q) = h q ∙ judged_more q (places_of ts)
-  holds_more ts f h (refuses m i) = refl
+    -- a token more, by its pair
+    walks_more :
+        (ks : List (List ℕ)) (f : Place → Answer T)
+        → ((q : Place) → f q ≡ answer_and_then (places_of ks) (judged first q (n + 1) (h t last q)))
+        → (a : Answer Place) → answer_and_then a f ≡ answer_and_then (answer_and_then a (λ q. giving (λ l. q ∷ l) (places_of ks))) (judged first last n t)
+    walks_more ks f e (gives q) = e q ∙ judged_more q (places_of ks)
+    walks_more ks f e (refuses m i) = refl
 
-holds_all :
-    (j : Bool) (p first last : Place) (n : ℕ) (sum : Tally) (ts : List (List ℕ))
-    → holds_with j p first last n sum ts ≡ answer_and_then (places_of ts) (judged j p first last n sum)
-unfolding holds_with places_of last_of ring_with
-holds_all j p first last n sum [] = rw (add-zero n)
-holds_all j p first last n sum (t ∷ ts) =
-    holds_more j p first last n sum ts _ (λ q. holds_all j p first q (n + 1) (tallied j p sum last q) ts) (pair_of t)
+  walks_all :
+      (first last : Place) (n : ℕ) (t : T) (ks : List (List ℕ))
+      → walks_with first last n t ks ≡ answer_and_then (places_of ks) (judged first last n t)
+  unfolding walks_with places_of last_of over_edges_from
+  walks_all first last n t [] = rw (add-zero n)
+  walks_all first last n t (k ∷ ks) = walks_more first last n t ks _ (λ q. walks_all first q (n + 1) (h t last q) ks) (pair_of k)
 
--- one token more
-module _ (j : Bool) (p first last : Place) (n : ℕ) (sum : Tally) (l : List ℕ) (at : ℕ) (r : Answer Bool)
-    (v : holds_with j p first last n sum (tokens (drop at l)) ≡ r) where
-  pub holds_next :
-      (q : Place) (e : ℕ) {more : Tally} → next_of l at ≡ next.Pair q e → more ≡ tallied j p sum last q
-      → holds_with j p first q (n + 1) more (tokens (drop e l)) ≡ r
-  unfolding holds_with
-  holds_next q e h g = let k = says l at (next.Pair q e) h in rw g (rw (k.1.0.first, k.1.1) at v)
+  -- one token more
+  module _ (first last : Place) (n : ℕ) (t : T) (l : List ℕ) (at : ℕ) (r : Answer T) (v : walks_with first last n t (tokens (drop at l)) ≡ r) where
+    pub walks_next :
+        (q : Place) (e : ℕ) {u : T} → next_of l at ≡ Ok (Some (q, e)) → u ≡ h t last q
+        → walks_with first q (n + 1) u (tokens (drop e l)) ≡ r
+    unfolding walks_with
+    walks_next q e f g = let k = says l at (Ok (Some (q, e))) f in rw g (rw (k.1.0.first, k.1.1) at v)
 
-  pub holds_end : {closed : Bool} {o : Answer Bool} → next_of l at ≡ next.End → closed ≡ closes n first last → o ≡ verdict_of closed sum → o ≡ r
-  unfolding holds_with
-  holds_end h e g = g ∙ rw e (rw (says l at next.End h) at v)
+    pub walks_end : {closed : Bool} → next_of l at ≡ at_end → closed ≡ closes n first last → cond closed (gives t) (refuses 22 0) ≡ r
+    unfolding walks_with
+    walks_end f e = rw e (rw (says l at at_end f) at v)
 
-  pub holds_fault : next_of l at ≡ next.Fault → refuses 22 0 ≡ r
-  unfolding holds_with
-  holds_fault h = let k = says l at next.Fault h in rw (k.1.1.0.first, k.1.1.1) at v
+    pub walks_fault : next_of l at ≡ not_pair → refuses 22 0 ≡ r
+    unfolding walks_with
+    walks_fault f = let k = says l at not_pair f in rw (k.1.1.0.first, k.1.1.1) at v
 
--- the first token
-module _ (p : Place) (l : List ℕ) where
-  -- its place q, and the places after it
-  whole_ring :
-      (j : Bool) (q : Place) (a : Answer (List Place))
-      → answer_and_then a (judged j p q q 1 none)
-      ≡ giving (λ ring. j && in_ring ring p) (answer_and_then (giving (λ l. q ∷ l) a) (λ ring. cond (is_ring ring) (gives ring) (refuses 22 0)))
-  unfolding is_closed
-  whole_ring j q (gives ps) =
-      let s : 1 + length ps ≡ suc (length ps) = omega arith in
-      by_test (leb 4 (suc (length ps)) && same_place q (last_of q ps)) (λ e. rw (s, e, ring_is j p q ps)) (λ e. rw (s, e))
-  whole_ring j q (refuses n i) = refl
+  -- the first token
+  module _ (l : List ℕ) (t : T) where
+    -- its place q, and the places after it
+    whole_ring :
+        (q : Place) (a : Answer (List Place))
+        → answer_and_then a (judged q q 1 t)
+        ≡ giving (over_edges h t) (answer_and_then (giving (λ l. q ∷ l) a) (λ ring. cond (is_ring ring) (gives ring) (refuses 22 0)))
+    unfolding is_closed over_edges
+    whole_ring q (gives ps) =
+        let s : 1 + length ps ≡ suc (length ps) = omega arith in
+        by_test (leb 4 (suc (length ps)) && same_place q (last_of q ps)) (λ e. rw (s, e)) (λ e. rw (s, e))
+    whole_ring q (refuses n i) = refl
 
-  pub whole_next : (j : Bool) (q : Place) (e : ℕ) → next_of l 0 ≡ next.Pair q e → holds_with j p q q 1 none (tokens (drop e l)) ≡ answer_of j l p
-  unfolding polygon_of places_of
-  whole_next j q e h =
-      let k = says l 0 (next.Pair q e) h in
-      let ts = tokens (drop e l) in
-      holds_all j p q q 1 none ts ∙ rw (k.1.0.first, k.1.1) (whole_ring j q (places_of ts))
+    pub whole_next : (q : Place) (e : ℕ) → next_of l 0 ≡ Ok (Some (q, e)) → walks_with q q 1 t (tokens (drop e l)) ≡ giving (over_edges h t) (polygon_of l)
+    unfolding polygon_of places_of
+    whole_next q e f =
+        let k = says l 0 (Ok (Some (q, e))) f in
+        let ks = tokens (drop e l) in
+        walks_all q q 1 t ks ∙ rw (k.1.0.first, k.1.1) (whole_ring q (places_of ks))
 
-  -- a text that starts with no pair: the answer is one of the two other variants
-  none_whole : (n : Next) → ((q : Place) (e : ℕ) → n ≡ next.Pair q e → ⊥) → n ≡ next_of l 0 → polygon_of l ≡ refuses 22 0
-  unfolding polygon_of places_of is_closed
-  none_whole (next.Pair q e) k h = absurd (k q e refl)
-  none_whole next.End k h = rw (says l 0 next.End (sym h))
-  none_whole next.Fault k h = let v = says l 0 next.Fault (sym h) in rw (v.1.1.0.first, v.1.1.1)
+    -- a text that starts with no pair
+    pub whole_none : next_of l 0 ≡ at_end → refuses 22 0 ≡ giving (over_edges h t) (polygon_of l)
+    unfolding polygon_of places_of is_closed
+    whole_none f = rw (says l 0 at_end f)
 
-  pub whole_none : (j : Bool) (n : Next) → ((q : Place) (e : ℕ) → n ≡ next.Pair q e → ⊥) → n ≡ next_of l 0 → refuses 22 0 ≡ answer_of j l p
-  whole_none j n k h = rw (none_whole n k h)
+    pub whole_fault : next_of l 0 ≡ not_pair → refuses 22 0 ≡ giving (over_edges h t) (polygon_of l)
+    unfolding polygon_of places_of
+    whole_fault f = let v = says l 0 not_pair f in rw (v.1.1.0.first, v.1.1.1)
 
 -- ---- whether there is a polygon
 
 -- from any answer for it
-pub answer_given : (l : List ℕ) (f : List Place → Bool) {o : Answer Bool} → o ≡ giving f (polygon_of l) → is_given o ≡ is_polygon l
-answer_given l f e = ap is_given e ∙ go (polygon_of l)
+pub answer_given : {T : Type 0} (l : List ℕ) (f : List Place → T) {o : Answer T} → o ≡ giving f (polygon_of l) → is_given o ≡ is_polygon l
+answer_given {T} l f e = ap is_given e ∙ go (polygon_of l)
   where
     go : (a : Answer (List Place)) → is_given (giving f a) ≡ is_given a
     go (gives ring) = refl
+    go (refuses n i) = refl
+
+-- and from what a walk answers
+pub walk_given : {T : Type 0} (o : Option T) → is_some o ≡ is_given (walk_answer o)
+walk_given (Some t) = refl
+walk_given None = refl
+
+-- what the walk that adds edges answers
+pub walk_holds :
+    (l : List ℕ) (p : Place) (o : Option Tally) → walk_answer o ≡ giving (over_edges (adding p) none) (polygon_of l)
+    → giving (λ sum. sum.on || sum.crossed) (walk_answer o) ≡ polygon_holds l p
+unfolding polygon_holds
+walk_holds l p o e = ap (giving (λ sum. sum.on || sum.crossed)) e ∙ go (polygon_of l)
+  where
+    go : (a : Answer (List Place)) → giving (λ sum. sum.on || sum.crossed) (giving (over_edges (adding p) none) a) ≡ giving (λ ring. in_ring ring p) a
+    go (gives ring) = ap gives (ring_is p ring)
     go (refuses n i) = refl
 
 places_cases : (ts : List (List ℕ)) (P : Answer (List Place) → Type 0) → ((l : List Place) → P (gives l)) → P (refuses 22 0) → P (places_of ts)

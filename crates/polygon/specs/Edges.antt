@@ -1,5 +1,5 @@
 -- What an edge says of a place, and what edges say together.
-use Rattle.std.specs.Prelude.{Bool, cond, not, ◌&&◌, ◌||◌, ℤ}
+use Rattle.std.specs.Prelude.{Bool, not, ◌&&◌, ◌||◌, ℤ}
 use Rattle.std.specs.Bool.{beq}
 use Rattle.std.specs.Int.Signed.{lt_z, le_z}
 use Rattle.integers.specs.Magnitude.{signed}
@@ -26,7 +26,3 @@ edge_of a b p = record { on = on_edge a b p; crossed = crosses a b p }
 -- on either; an odd number of crossings
 abbrev pub plus_of : Tally → Tally → Tally
 plus_of a b = record { on = a.on || b.on; crossed = not (beq a.crossed b.crossed) }
-
--- the edge from a to b too, where edges are counted
-abbrev pub tallied : Bool → Place → Tally → Place → Place → Tally
-tallied counted p sum a b = cond counted (plus_of sum (edge_of a b p)) sum

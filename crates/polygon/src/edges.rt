@@ -3,12 +3,12 @@ ghost use Rattle.std.specs.Prelude.{◌≡◌, ◌-ℤ◌, ◌*ℤ◌};
 ghost use Rattle.std.specs.Int.Signed.{lt_z};
 ghost use Rattle.integers.specs.Magnitude.{less_by};
 ghost use Rattle.polygon.specs.Polygon.{between, east_of, north_of};
-ghost use Rattle.polygon.specs.Edges.{value_of, in_box, crossed_by, edge_of, plus_of, tallied};
+ghost use Rattle.polygon.specs.Edges.{value_of, in_box, crossed_by, edge_of, plus_of};
 ghost use Rattle.polygon.specs.Skips.{on_one_side};
 
 use coordinates::Place;
 
-// A product by its sign and magnitude.
+// A product by its sign and magnitude. Kept: docs/TRACE.md has edge products compared so, by `less_by`.
 #[derive(Clone, Copy)]
 struct Product {
     negative: bool,
@@ -26,7 +26,12 @@ pub struct Tally {
 fn less_by(s: bool, m: u64, t: bool, n: u64) -> bool
     ensures { result ≡ less_by s m t n }
 {
-    (s & t & (n < m)) | (s & !t & ((0 < m) | (0 < n))) | (!s & !t & (m < n))
+    match (s, t) {
+        (true, true) => n < m,
+        (true, false) => 0 < m || 0 < n,
+        (false, true) => false,
+        (false, false) => m < n,
+    }
 }
 
 // Whether one product is less than another.
@@ -66,7 +71,7 @@ fn north_of(a: Place, b: Place, p: Place) -> Product
 fn between(a: i32, b: i32, z: i32) -> bool
     ensures { result ≡ between a b z }
 {
-    ((a <= z) & (z <= b)) | ((b <= z) & (z <= a))
+    a <= z && z <= b || b <= z && z <= a
 }
 
 // Whether the place lies in the box that has a and b as corners.
@@ -92,37 +97,40 @@ fn edge_of(a: Place, b: Place, p: Place) -> Tally
     let less = is_less(east, north);
     let more = is_less(north, east);
     if less | more {
-        let crossed = is_crossed(a.lat, b.lat, p.lat, less, more);
-        return Tally { on: false, crossed };
+        Tally {
+            on: false,
+            crossed: is_crossed(a.lat, b.lat, p.lat, less, more),
+        }
+    } else {
+        Tally {
+            on: in_box(a, b, p),
+            crossed: false,
+        }
     }
-    let on = in_box(a, b, p);
-    Tally { on, crossed: false }
 }
 
 // What edges a and edges b say together: on either of them, and an odd number of crossings.
 fn plus(a: Tally, b: Tally) -> Tally
     ensures { result ≡ plus_of a b }
 {
-    let on = a.on | b.on;
-    let crossed = a.crossed != b.crossed;
-    Tally { on, crossed }
+    Tally {
+        on: a.on || b.on,
+        crossed: a.crossed != b.crossed,
+    }
 }
 
 // Whether the latitudes a and b both lie above z, or both below it.
 fn on_one_side(a: i32, b: i32, z: i32) -> bool
     ensures { result ≡ on_one_side a b z }
 {
-    ((z < a) & (z < b)) | ((a < z) & (b < z))
+    z < a && z < b || a < z && b < z
 }
 
-// The sum of what edges say of the place p, with the edge from a to b; the same sum where no edge is counted. An edge with both ends on one side of
-// the place's latitude adds nothing, so that it is skipped before any product is formed.
-pub fn add_edge(counted: bool, sum: Tally, a: Place, b: Place, p: Place) -> Tally
-    ensures { result ≡ tallied counted p sum a b }
+// The sum of what edges say of the place p, with the edge from a to b. An edge with both ends on one side of the place's latitude adds nothing, so that it
+// is skipped before any product is formed.
+pub fn add_edge(sum: Tally, a: Place, b: Place, p: Place) -> Tally
+    ensures { result ≡ plus_of sum (edge_of a b p) }
 {
-    if !counted {
-        return sum;
-    }
     if on_one_side(a.lat, b.lat, p.lat) {
         return sum;
     }

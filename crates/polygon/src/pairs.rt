@@ -3,40 +3,34 @@ ghost use Rattle.std.specs.Prelude.{◌≡◌, drop};
 ghost use Rattle.text.specs.Tokens.{on_token};
 ghost use Rattle.polygon.specs.Next.{next_of};
 
-use coordinates::{LeadingPair, Place};
+use coordinates::Place;
 
-// The next pair of a text and the offset after it; or that the text ends, or that no pair stands there.
-#[derive(Clone, Copy)]
-pub enum Next {
-    Pair(Place, usize),
-    End,
-    Fault,
-}
+// Something stands in a text that is no pair.
+#[derive(Clone, Copy, Debug, PartialEq, Eq)]
+pub struct NotPair;
 
 // Whether a token goes on at an offset.
 fn on_token(s: &[u8], at: usize) -> bool
     ensures { result ≡ on_token (drop at s.now) }
 {
-    if at < s.len() {
-        return !text::is_space(s[at]);
-    }
-    false
+    matches!(s.get(at), Some(b) if !text::is_space(*b))
 }
 
-// The pair from `at` on, after white space, which must follow it too; or that the text ends there, or that no pair stands there.
-pub fn next_pair(s: &[u8], at: usize) -> Next
+// The pair from `at` on, after white space, which must follow it too, and the offset after it; none where the text ends there. Inlined, as each walk
+// calls it for each pair.
+#[inline]
+pub fn next_pair(s: &[u8], at: usize) -> Result<Option<(Place, usize)>, NotPair>
     ensures { result ≡ next_of s.now at }
 {
     let start = text::skip_space(s, at);
     if s.len() <= start {
-        return Next::End;
+        return Ok(None);
     }
-    let pair = coordinates::leading_pair(s, start);
-    let LeadingPair::At(place, end) = pair else {
-        return Next::Fault;
+    let Some((place, end)) = coordinates::leading_pair(s, start) else {
+        return Err(NotPair);
     };
     if on_token(s, end) {
-        return Next::Fault;
+        return Err(NotPair);
     }
-    Next::Pair(place, end)
+    Ok(Some((place, end)))
 }

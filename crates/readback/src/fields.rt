@@ -1,62 +1,80 @@
 // The fields of a sentence, each after the text in front of it. A field's writer is lent the part of the buffer that starts where the field starts.
-ghost use Rattle.std.specs.Prelude.{[], ◌∷◌};
-ghost use Rattle.buffer.specs.Cursor.{PutAll};
+ghost use Rattle.std.specs.Prelude.{List, ℕ, [], ◌∷◌};
+ghost use Rattle.buffer.specs.Cursor.{Put, PutAll};
 ghost use Rattle.words.specs.Words.{said};
 ghost use Rattle.words.specs.Duration.{lasting};
 ghost use Rattle.codes.specs.Lists.{small_text};
 
 use buffer::put;
+use codes::Code;
 use codes::texts::put_code;
 use spoken::duration::put_duration;
 use spoken::number::put_number;
 
+// What a field says.
+pub trait Field: Copy {
+    ghost words: { Self → List ℕ };
+
+    // Writes as much of it as fits into dst from the offset at on, and gives the next start.
+    fn put(self, dst: &mut [u8], at: usize) -> usize
+        ensures { Put dst.old at (words self) dst.new result };
+}
+
 // A text as it stands: a sender or a name.
-pub fn text_field(dst: &mut [u8], at: usize, before: &[u8], t: &[u8]) -> usize
-    ensures { PutAll dst.old at (before.now ∷ t.now ∷ []) dst.new result }
-{
-    let a = put(dst, at, before);
-    if dst.len() < a {
-        return a;
+#[derive(Clone, Copy)]
+pub struct Text<'a>(pub &'a [u8]);
+
+impl Field for Text<'_> {
+    ghost words = { λ t. t.0.now };
+
+    fn put(self, dst: &mut [u8], at: usize) -> usize {
+        put(dst, at, self.0)
     }
-    a + put(&mut dst[a..], 0, t)
 }
 
 // A number in words.
-pub fn number_field(dst: &mut [u8], at: usize, before: &[u8], n: u32) -> usize
-    ensures { PutAll dst.old at (before.now ∷ said n ∷ []) dst.new result }
-{
-    let a = put(dst, at, before);
-    if dst.len() < a {
-        return a;
-    }
-    a + put_number(&mut dst[a..], 0, n)
-}
+#[derive(Clone, Copy)]
+pub struct Number(pub u32);
 
-// A number below 256 in words.
-pub fn byte_field(dst: &mut [u8], at: usize, before: &[u8], n: u8) -> usize
-    ensures { PutAll dst.old at (before.now ∷ said n ∷ []) dst.new result }
-{
-    number_field(dst, at, before, n as u32)
+impl Field for Number {
+    ghost words = { λ n. said n.0 };
+
+    fn put(self, dst: &mut [u8], at: usize) -> usize {
+        put_number(dst, at, self.0)
+    }
 }
 
 // A number of seconds in words.
-pub fn duration_field(dst: &mut [u8], at: usize, before: &[u8], seconds: u32) -> usize
-    ensures { PutAll dst.old at (before.now ∷ lasting seconds ∷ []) dst.new result }
-{
-    let a = put(dst, at, before);
-    if dst.len() < a {
-        return a;
+#[derive(Clone, Copy)]
+pub struct Seconds(pub u32);
+
+impl Field for Seconds {
+    ghost words = { λ s. lasting s.0 };
+
+    fn put(self, dst: &mut [u8], at: usize) -> usize {
+        put_duration(dst, at, self.0)
     }
-    a + put_duration(&mut dst[a..], 0, seconds)
 }
 
-// A CAP code in small letters, by its list and its number.
-pub fn code_field(dst: &mut [u8], at: usize, before: &[u8], list: usize, k: usize) -> usize
-    ensures { PutAll dst.old at (before.now ∷ small_text list k ∷ []) dst.new result }
+// A CAP code in small letters.
+#[derive(Clone, Copy)]
+pub struct Small<C>(pub C);
+
+impl<C: Code> Field for Small<C> {
+    ghost words = { λ c. small_text C.LIST (C.number_of c.0) };
+
+    fn put(self, dst: &mut [u8], at: usize) -> usize {
+        put_code(dst, at, C::LIST, self.0.number())
+    }
+}
+
+// A field after the text in front of it.
+pub fn put_field<F: Field>(dst: &mut [u8], at: usize, before: &[u8], field: F) -> usize
+    ensures { PutAll dst.old at (before.now ∷ F.words field ∷ []) dst.new result }
 {
     let a = put(dst, at, before);
     if dst.len() < a {
         return a;
     }
-    a + put_code(&mut dst[a..], 0, list, k)
+    a + field.put(&mut dst[a..], 0)
 }

@@ -5,17 +5,15 @@
 mod fields; // fields.rt: the fields of a sentence
 pub mod cap; // cap.rt: the sentence of a CAP sheet
 pub mod warn; // warn.rt: the sentence of a WARN sheet
-mod room; // room.rt: whether a sentence has room
+mod sheets; // sheets.rt: the sentence of a sheet of either kind, where it has room
 
 ghost use Rattle.std.specs.Prelude.{◌≡◌};
 ghost use Rattle.sheet.specs.Sheet.{cap, warn};
+ghost use Rattle.sheet.specs.Reading.{sheet_in};
 ghost use Rattle.sheet.specs.Answers.{writing, write_answer, after};
 
-use crate::cap::put_cap;
-use crate::room::{cap_has_room, warn_has_room};
-use crate::warn::put_warn;
-use sheet::ranges::{is_cap, is_warn};
-use sheet::{CapFacts, WarnFacts, WriteSheet};
+use crate::sheets::{Cap, write};
+use sheet::{CapFacts, Found, WarnFacts, WriteError, span_in};
 
 // The length of the longest sentence (sheet/specs/Sentence.antt: `longest`).
 pub const LONGEST: usize = 651;
@@ -27,37 +25,42 @@ pub fn write_cap(
     facts: CapFacts,
     sender: &[u8],
     name: &[u8],
-) -> WriteSheet
+) -> Result<usize, WriteError>
     ensures { (write_answer result ≡ writing buffer.old start (cap facts sender.now name.now)) × (buffer.new ≡ after buffer.old start (cap facts sender.now name.now)) }
 {
-    if !is_cap(facts, sender, name) {
-        return WriteSheet::OutOfRange;
-    }
-    let n = buffer.len();
-    if n < start {
-        return WriteSheet::NoRoom;
-    }
-    if !cap_has_room(n - start, facts, sender, name) {
-        return WriteSheet::NoRoom;
-    }
-    let end = put_cap(buffer, start, facts, sender, name);
-    WriteSheet::End(end)
+    let sheet = Cap {
+        facts,
+        sender,
+        name,
+    };
+    write(buffer, start, sheet)
 }
 
 // Writes the sentence of a WARN sheet from start on, or refuses it likewise.
-pub fn write_warn(buffer: &mut [u8], start: usize, facts: WarnFacts) -> WriteSheet
+pub fn write_warn(buffer: &mut [u8], start: usize, facts: WarnFacts) -> Result<usize, WriteError>
     ensures { (write_answer result ≡ writing buffer.old start (warn facts)) × (buffer.new ≡ after buffer.old start (warn facts)) }
 {
-    if !is_warn(facts) {
-        return WriteSheet::OutOfRange;
+    write(buffer, start, facts)
+}
+
+// Writes the sentence of a sheet that was found in a text.
+#[tactic(auto, unfolding(sheet::specs::Reading::sheet_in))]
+pub fn write_found(
+    buffer: &mut [u8],
+    start: usize,
+    text: &[u8],
+    found: Found,
+) -> Result<usize, WriteError>
+    ensures { (write_answer result ≡ writing buffer.old start (sheet_in text.now found)) × (buffer.new ≡ after buffer.old start (sheet_in text.now found)) }
+{
+    match found {
+        Found::Cap(facts, sender, name) => write_cap(
+            buffer,
+            start,
+            facts,
+            span_in(text, sender),
+            span_in(text, name),
+        ),
+        Found::Warn(facts) => write_warn(buffer, start, facts),
     }
-    let n = buffer.len();
-    if n < start {
-        return WriteSheet::NoRoom;
-    }
-    if !warn_has_room(n - start, facts) {
-        return WriteSheet::NoRoom;
-    }
-    let end = put_warn(buffer, start, facts);
-    WriteSheet::End(end)
 }

@@ -4,41 +4,47 @@
 #![tactic(auto)]
 
 use codes::{Certainty, MessageType, Scope, Severity, Status, Urgency};
-use sheet::{CapFacts, Found, Lasting, Part, Parts, ReadBack, Span, WarnFacts, WriteSheet};
-
-// The standard output.
-const STDOUT_FILENO: i32 = 1;
-
-// Room for any sentence.
-const SENTENCE_ROOM: usize = 1024;
+use sheet::{CapFacts, Lasting, Part, Parts, ReadError, WarnFacts, WriteError};
+use std::io;
 
 // The buffer's length: of the last three sheets only the second fits, and just so.
 const ROOM: usize = 1020;
 
-fn print(text: &[u8]) {
-    io::write_all(STDOUT_FILENO, text);
+// The text that is written, up to an end.
+#[derive(Drop)]
+struct Text {
+    bytes: [u8; ROOM],
+    end: usize,
 }
 
-fn print_number(n: usize) {
-    io::print_decimal(STDOUT_FILENO, n as u64);
-}
+impl Text {
+    // Writes the sentence of a CAP sheet at the end of the text, and what the writer answers.
+    fn cap(
+        &mut self,
+        rt: &impl Print,
+        facts: CapFacts,
+        sender: &[u8],
+        name: &[u8],
+    ) -> io::Result<()> {
+        let answer = readback::write_cap(&mut self.bytes, self.end, facts, sender, name);
+        self.go_on(rt, answer)
+    }
 
-// Prints the answer to a write, and gives the start of the next.
-fn next_start(start: usize, answer: WriteSheet) -> usize {
-    match answer {
-        WriteSheet::End(end) => {
-            print(b"end ");
-            print_number(end);
-            print(b"\n");
-            end
-        }
-        WriteSheet::OutOfRange => {
-            print(b"refused 23 at 0\n");
-            start
-        }
-        WriteSheet::NoRoom => {
-            print(b"refused 13 at 0\n");
-            start
+    // The same of a WARN sheet.
+    fn warn(&mut self, rt: &impl Print, facts: WarnFacts) -> io::Result<()> {
+        let answer = readback::write_warn(&mut self.bytes, self.end, facts);
+        self.go_on(rt, answer)
+    }
+
+    // Prints the answer to a write. The next write starts where this one ended, or where it was refused.
+    fn go_on(&mut self, rt: &impl Print, answer: Result<usize, WriteError>) -> io::Result<()> {
+        match answer {
+            Ok(end) => {
+                self.end = end;
+                println!(rt; "end {end}")
+            }
+            Err(WriteError::OutOfRange) => println!(rt; "refused 23 at 0"),
+            Err(WriteError::NoRoom) => println!(rt; "refused 13 at 0"),
         }
     }
 }
@@ -53,7 +59,7 @@ fn alert(parts: Parts) -> CapFacts {
 }
 
 fn part(number: u8, total: u8, lasting: Lasting) -> Parts {
-    Parts::OnePart(Part {
+    Some(Part {
         number,
         total,
         urgency: Urgency::Immediate,
@@ -83,231 +89,93 @@ fn warning(event: u32, lasting: u32) -> WarnFacts {
 }
 
 // Document 01's three samples.
-fn write_samples(buffer: &mut [u8], start: usize) -> usize {
-    let first = alert(part(1, 1, Lasting::Seconds(900)));
-    let a = next_start(
-        start,
-        readback::write_cap(buffer, start, first, b"kiln.example", b"A17"),
-    );
-    let second = CapFacts {
+fn write_samples(rt: &impl Print, text: &mut Text) -> io::Result<()> {
+    let cancel = CapFacts {
         message: MessageType::Cancel,
-        status: Status::Actual,
-        scope: Scope::Public,
-        parts: Parts::NoPart,
+        ..alert(None)
     };
-    let b = next_start(
-        a,
-        readback::write_cap(buffer, a, second, b"kiln.example", b"A18"),
-    );
-    next_start(b, readback::write_warn(buffer, b, warning(7, 3900)))
+    text.cap(rt, alert(part(1, 1, Some(900))), b"kiln.example", b"A17")?;
+    text.cap(rt, cancel, b"kiln.example", b"A18")?;
+    text.warn(rt, warning(7, 3900))
 }
 
-// CAP sheets with a part out of range.
-fn write_bad_parts(buffer: &mut [u8], start: usize) -> usize {
-    let a = next_start(
-        start,
-        readback::write_cap(
-            buffer,
-            start,
-            alert(part(0, 1, Lasting::Unstated)),
-            b"a",
-            b"A",
-        ),
-    );
-    next_start(
-        a,
-        readback::write_cap(buffer, a, alert(part(2, 1, Lasting::Unstated)), b"a", b"A"),
-    )
-}
-
-// CAP sheets with too many parts, and with one that lasts too long.
-fn write_too_many(buffer: &mut [u8], start: usize) -> usize {
-    let a = next_start(
-        start,
-        readback::write_cap(
-            buffer,
-            start,
-            alert(part(1, 17, Lasting::Unstated)),
-            b"a",
-            b"A",
-        ),
-    );
-    next_start(
-        a,
-        readback::write_cap(
-            buffer,
-            a,
-            alert(part(1, 1, Lasting::Seconds(31536001))),
-            b"a",
-            b"A",
-        ),
-    )
+// CAP sheets with a part out of range, with too many parts, and with one that lasts too long.
+fn write_bad_parts(rt: &impl Print, text: &mut Text) -> io::Result<()> {
+    text.cap(rt, alert(part(0, 1, None)), b"a", b"A")?;
+    text.cap(rt, alert(part(2, 1, None)), b"a", b"A")?;
+    text.cap(rt, alert(part(1, 17, None)), b"a", b"A")?;
+    text.cap(rt, alert(part(1, 1, Some(31536001))), b"a", b"A")
 }
 
 // CAP sheets with a sender out of range.
-fn write_bad_names(buffer: &mut [u8], start: usize) -> usize {
-    let a = next_start(
-        start,
-        readback::write_cap(
-            buffer,
-            start,
-            alert(part(1, 1, Lasting::Seconds(900))),
-            b"a,b",
-            b"A",
-        ),
-    );
-    let b = next_start(
-        a,
-        readback::write_cap(buffer, a, alert(Parts::NoPart), b"", b"A"),
-    );
-    next_start(
-        b,
-        readback::write_cap(buffer, b, alert(Parts::NoPart), b"a]]>", b"A"),
-    )
+fn write_bad_names(rt: &impl Print, text: &mut Text) -> io::Result<()> {
+    text.cap(rt, alert(part(1, 1, Some(900))), b"a,b", b"A")?;
+    text.cap(rt, alert(None), b"", b"A")?;
+    text.cap(rt, alert(None), b"a]]>", b"A")
 }
 
-// WARN sheets that last too short and too long a time.
-fn write_bad_warnings(buffer: &mut [u8], start: usize) -> usize {
-    let a = next_start(start, readback::write_warn(buffer, start, warning(0, 0)));
-    next_start(a, readback::write_warn(buffer, a, warning(1, 31536001)))
-}
-
-// WARN sheets that last the longest and the shortest time.
-fn write_warnings(buffer: &mut [u8], start: usize) -> usize {
-    let a = next_start(
-        start,
-        readback::write_warn(buffer, start, warning(4294967295, 31536000)),
-    );
-    next_start(a, readback::write_warn(buffer, a, warning(1, 1)))
+// WARN sheets that last too short and too long a time, and the longest and the shortest.
+fn write_warnings(rt: &impl Print, text: &mut Text) -> io::Result<()> {
+    text.warn(rt, warning(0, 0))?;
+    text.warn(rt, warning(1, 31536001))?;
+    text.warn(rt, warning(4294967295, 31536000))?;
+    text.warn(rt, warning(1, 1))
 }
 
 // A CAP sheet at the end of its range.
-fn write_last_part(buffer: &mut [u8], start: usize) -> usize {
+fn write_last_part(rt: &impl Print, text: &mut Text) -> io::Result<()> {
     let facts = CapFacts {
         message: MessageType::Error,
         status: Status::Draft,
         scope: Scope::Restricted,
-        parts: part(16, 16, Lasting::Unstated),
+        parts: part(16, 16, None),
     };
-    next_start(
-        start,
-        readback::write_cap(buffer, start, facts, b"]]", b"]>"),
-    )
+    text.cap(rt, facts, b"]]", b"]>")
 }
 
-// A part of a text; nothing where it isn't there.
-fn part_of(text: &[u8], span: Span) -> &[u8] {
-    let start = span.start;
-    let len = span.len;
-    if text.len() < start {
-        return &text[..0];
+fn write_list(rt: &impl Print, text: &mut Text) -> io::Result<()> {
+    write_samples(rt, text)?;
+    write_bad_parts(rt, text)?;
+    write_bad_names(rt, text)?;
+    write_warnings(rt, text)?;
+    write_last_part(rt, text)?;
+    write_samples(rt, text)
+}
+
+fn print_read(rt: &impl Print, text: &[u8], k: usize) -> io::Result<()> {
+    match reader::read_back(text, k) {
+        Ok(read) => match read.sheet {
+            Some(found) => {
+                print!(rt; "{}: ", read.count)?;
+                output::write_sentence(&mut io::writer(rt), text, found)
+            }
+            None => println!(rt; "{} sentences", read.count),
+        },
+        Err(ReadError::NotReadBack(offset)) => println!(rt; "refused 23 at {offset}"),
+        Err(ReadError::NotThere) => println!(rt; "refused 21 at 0"),
     }
-    if text.len() - start < len {
-        return &text[..0];
-    }
-    let end = start + len;
-    &text[start..end]
-}
-
-// The sentence of a sheet that was found in a text, written anew.
-fn print_found(text: &[u8], found: Found) {
-    let mut own = [0u8; SENTENCE_ROOM];
-    match found {
-        Found::Cap(facts, sender, name) => {
-            let answer = readback::write_cap(
-                &mut own,
-                0,
-                facts,
-                part_of(text, sender),
-                part_of(text, name),
-            );
-            print_written(&own, answer);
-        }
-        Found::Warn(facts) => {
-            let answer = readback::write_warn(&mut own, 0, facts);
-            print_written(&own, answer);
-        }
-    }
-}
-
-fn print_written(own: &[u8], answer: WriteSheet) {
-    let WriteSheet::End(end) = answer else {
-        print(b"not written\n");
-        return;
-    };
-    if end <= own.len() {
-        print(&own[..end]);
-    }
-}
-
-fn print_read(text: &[u8], k: usize) {
-    let answer = reader::read_back(text, k);
-    match answer {
-        ReadBack::Count(n) => {
-            print_number(n);
-            print(b" sentences\n");
-        }
-        ReadBack::Sheet(n, found) => {
-            print_number(n);
-            print(b": ");
-            print_found(text, found);
-        }
-        ReadBack::NotReadBack(offset) => {
-            print(b"refused 23 at ");
-            print_number(offset);
-            print(b"\n");
-        }
-        ReadBack::NotThere => print(b"refused 21 at 0\n"),
-    }
-}
-
-fn print_reads(text: &[u8]) {
-    let mut k = 0;
-    while k < 12 {
-        print_read(text, k);
-        k += 1;
-    }
-}
-
-// Writes the whole list, and gives the end of its text.
-fn write_list(buffer: &mut [u8]) -> usize {
-    let a = write_samples(buffer, 0);
-    let b = write_bad(buffer, a);
-    write_good(buffer, b)
-}
-
-fn write_bad(buffer: &mut [u8], start: usize) -> usize {
-    let a = write_bad_parts(buffer, start);
-    let b = write_too_many(buffer, a);
-    write_bad_names(buffer, b)
-}
-
-fn write_good(buffer: &mut [u8], start: usize) -> usize {
-    let a = write_bad_warnings(buffer, start);
-    let b = write_warnings(buffer, a);
-    write_ends(buffer, b)
-}
-
-fn write_ends(buffer: &mut [u8], start: usize) -> usize {
-    let a = write_last_part(buffer, start);
-    write_samples(buffer, a)
-}
-
-fn main() {
-    let mut buffer = [b'-'; ROOM];
-    let end = write_list(&mut buffer);
-    print(&buffer);
-    print(b"\n");
-    if end <= ROOM {
-        print_reads(&buffer[..end]);
-    }
-    print_damaged();
 }
 
 // A text whose second line is damaged, asked for its first sentence and for their number.
-fn print_damaged() {
+fn print_damaged(rt: &impl Print) -> io::Result<()> {
     let text =
         b"cap ack, test, private, from a, name b, no parts.\ncap ack, Test, private, from a, name b, no parts.\n";
-    print_read(text, 1);
-    print_read(text, 0);
+    print_read(rt, text, 1)?;
+    print_read(rt, text, 0)
+}
+
+fn main(rt: HostRuntime) -> io::Result<()> {
+    let mut text = Text {
+        bytes: [b'-'; ROOM],
+        end: 0,
+    };
+    write_list(&rt, &mut text)?;
+    rt.write_all(&text.bytes)?;
+    println!(rt)?;
+    if let Some(written) = text.bytes.get(..text.end) {
+        for k in 0..12 {
+            print_read(&rt, written, k)?;
+        }
+    }
+    print_damaged(&rt)
 }

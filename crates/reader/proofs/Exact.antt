@@ -6,20 +6,20 @@ use Prim.Native.Nat.{ℕ, ◌≤◌, zero-le}
 use native.Mathlib.Nat.{zero-add}
 use native.Mathlib.Omega.{arith}
 use lib.ListN.{length, take, drop}
+use Rattle.std.specs.Prelude.{Some, None, Err}
 use Rattle.text.specs.Ascii.{ascii}
-use Rattle.text.specs.Answers.{Answer, gives, refuses}
+use Rattle.text.specs.Answers.{gives, refuses}
 use Rattle.text.specs.Logic.{by_test, clash}
-use Rattle.sheet.specs.declared.CapFacts.{CapFacts}
 use Rattle.sheet.specs.declared.WarnFacts.{WarnFacts}
-use Rattle.sheet.specs.declared.Span.{Span}
+use Rattle.sheet.specs.declared.WriteError.{WriteError}
+use Rattle.sheet.specs.declared.WriteError.TheVariants.{OutOfRange, NoRoom}
 use Rattle.sheet.specs.declared.Found.{Found}
 use Rattle.sheet.specs.declared.Found.TheVariants as found
-use Rattle.sheet.specs.declared.Line.TheVariants as line
 use Rattle.text.specs.Parts.{starts_with}
-use Rattle.sheet.specs.Sheet.{Sheet, cap, warn, in_range}
+use Rattle.sheet.specs.Sheet.{Sheet, in_range}
 use Rattle.sheet.specs.Sentence.{sentence, longest}
-use Rattle.sheet.specs.Reading.{warn_of, found_at, span_in, sheet_in, sheet_of, is_line, line_at}
-use Rattle.sheet.specs.Answers.{writing, after}
+use Rattle.sheet.specs.Reading.{warn_of, found_at, sheet_in, sheet_of, is_line, line_at}
+use Rattle.sheet.specs.Answers.{writing, write_answer, after}
 use Rattle.sheet.proofs.Lengths.{sentence_le}
 use Rattle.sheet.proofs.ReadSentence.{found_at_lem}
 use Rattle.sheet.proofs.WriteOne.{length_written, part_written, write_end, given}
@@ -81,30 +81,18 @@ module _ (t : List ℕ) (at : ℕ) {f : Found} (q : f ≡ found_at at (drop at t
         rw (is_line, ← sheet_is, end_is.range)
         (ap (λ (p : List ℕ). starts_with p (drop at t)) (sym end_is.bytes ∙ ap (take n) (sym w)) ∙ sym s)
 
-    pub line_sentence : r ≡ true → line.Sentence f n ≡ line_at at (drop at t)
+    pub line_sentence : r ≡ true → Some (f, n) ≡ line_at at (drop at t)
     unfolding line_at
-    line_sentence h = rw (line_at, line_test ∙ h) (ap₂ line.Sentence q (end_is.size ∙ ap (λ (x : Sheet). length (sentence x)) sheet_is))
+    line_sentence h = rw (line_at, line_test ∙ h) (ap₂ (λ (x : Found) (m : ℕ). Some (x, m)) q (end_is.size ∙ ap (λ (x : Sheet). length (sentence x)) sheet_is))
 
-    pub line_differs : r ≡ false → line.Other ≡ line_at at (drop at t)
+    pub line_differs : r ≡ false → None ≡ line_at at (drop at t)
     unfolding line_at
     line_differs h = rw (line_at, line_test ∙ h)
 
-  pub line_refused : {n p : ℕ} → longest ≤ length d → refuses n p ≡ writing d 0 (sheet_in t f) → line.Other ≡ line_at at (drop at t)
+  line_refused : {n p : ℕ} → longest ≤ length d → refuses n p ≡ writing d 0 (sheet_in t f) → None ≡ line_at at (drop at t)
   unfolding line_at is_line
   line_refused big e = rw (line_at, is_line, ← sheet_is, out_of_range d (sheet_in t f) big e)
 
--- ---- writing what was found
-
-module _ (t : List ℕ) {g : Found} where
-  pub sheet_cap : {f : CapFacts} {s n : Span} {a b : List ℕ} → g ≡ found.Cap f s n → a ≡ span_in t s → b ≡ span_in t n → cap f a b ≡ sheet_in t g
-  unfolding sheet_in
-  sheet_cap {f} e p q = ap₂ (cap f) p q ∙ sym (ap (sheet_in t) e)
-
-  pub sheet_warn : {f : WarnFacts} → g ≡ found.Warn f → warn f ≡ sheet_in t g
-  unfolding sheet_in
-  sheet_warn e = sym (ap (sheet_in t) e)
-
-pub same_answer :
-    (d : List ℕ) {e : List ℕ} {r : Answer ℕ} {x y : Sheet} → x ≡ y
-    → (r ≡ writing d 0 x) × (e ≡ after d 0 x) → (r ≡ writing d 0 y) × (e ≡ after d 0 y)
-same_answer d q p = (p.0 ∙ ap (writing d 0) q, p.1 ∙ ap (after d 0) q)
+  pub line_error : (e : WriteError) → longest ≤ length d → write_answer (Err e) ≡ writing d 0 (sheet_in t f) → None ≡ line_at at (drop at t)
+  line_error OutOfRange big q = line_refused big q
+  line_error NoRoom big q = line_refused big q

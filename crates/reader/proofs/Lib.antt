@@ -1,4 +1,3 @@
-pub mod Quantity
-pub mod WarnFacts
+pub mod Words
 pub mod Exact
 pub mod Turns

@@ -1,27 +1,27 @@
 -- One turn of the loop over a text: the line at the offset i is a read-back, with n before it.
-use mathlib.Core.Path.{◌≡◌, refl, sym, ap, ◌∙◌}
+use mathlib.Core.Path.{◌≡◌, sym, ap, ◌∙◌}
 use mathlib.Core.List.{List}
-use mathlib.Core.Option.{Option}
+use mathlib.Core.Option as found
 use Prim.Native.Nat.{ℕ, ◌+◌, ◌≤◌, ◌<◌}
 use native.Mathlib.Omega.{arith}
 use lib.ListN.{length, drop, length-drop}
+use Rattle.std.specs.Prelude.{Option, Some, None}
 use Rattle.text.specs.Answers.{Answer, refuses}
 use Rattle.sheet.specs.declared.Found.{Found}
-use Rattle.sheet.specs.declared.Line.{Line}
-use Rattle.sheet.specs.declared.Line.TheVariants as line
-use Rattle.sheet.specs.Reading.{found_at, line_at}
+use Rattle.sheet.specs.Reading.{line_at}
+use Rattle.sheet.specs.Answers.{sheet_asked}
 use Rattle.sheet.proofs.Lines.{line_some, line_within, IsLine, line_is, line_none}
 use Rattle.sheet.proofs.Contents.{contents_at}
 use Rattle.sheet.proofs.ReadLoop.{resumed, loop_other, loop_found, loop_stop}
 
--- the reader's answer from the offset i on, with n read-backs before it; the one asked for, if it is among them, starts at the offset a
-abbrev pub answer_from : List ℕ → ℕ → ℕ → ℕ → ℕ → Answer (ℕ × Option Found)
-answer_from t k i n a = resumed k n (found_at a (drop a t)) (contents_at t i)
+-- the reader's answer from the offset i on, with n read-backs before it, and o the one asked for if it is among them
+abbrev pub answer_from : List ℕ → ℕ → ℕ → ℕ → Option Found → Answer (ℕ × found.Option Found)
+answer_from t k i n o = resumed k n (sheet_asked o) (contents_at t i)
 
-module _ (t : List ℕ) (i : ℕ) {r : Line} (q : r ≡ line_at i (drop i t)) where
-  module _ {f : Found} {size : ℕ} (e : r ≡ line.Sentence f size) where
+module _ (t : List ℕ) (i : ℕ) where
+  module _ {f : Found} {size : ℕ} (e : line_at i (drop i t) ≡ Some (f, size)) where
     is : IsLine i (drop i t) f size
-    is = line_is i (drop i t) f size (sym q ∙ e)
+    is = line_is i (drop i t) f size e
 
     -- it has a byte, and lies within the text
     pub turn_room : i ≤ length t → (i < i + size) × (i + size ≤ length t)
@@ -31,24 +31,23 @@ module _ (t : List ℕ) (i : ℕ) {r : Line} (q : r ≡ line_at i (drop i t)) wh
         let c = is.size in
         omega arith
 
-    module _ (k n a : ℕ) where
-      pub turn_asked : n + 1 ≡ k → answer_from t k (i + size) (n + 1) i ≡ answer_from t k i n a
+    module _ (k n : ℕ) (o : Option Found) where
+      pub turn_asked : n + 1 ≡ k → answer_from t k (i + size) (n + 1) (Some f) ≡ answer_from t k i n o
       turn_asked z =
-          ap (λ (j : ℕ). answer_from t k (i + j) (n + 1) i) is.size
-          ∙ sym (loop_found t k i n (found_at a (drop a t)) is.is (sym z))
+          rw (is.size, is.found) (sym (loop_found t k i n (sheet_asked o) is.is (sym z)))
 
-      pub turn_other : (n + 1 ≡ k → ⊥) → answer_from t k (i + size) (n + 1) a ≡ answer_from t k i n a
+      pub turn_other : (n + 1 ≡ k → ⊥) → answer_from t k (i + size) (n + 1) o ≡ answer_from t k i n o
       turn_other z =
-          ap (λ (j : ℕ). answer_from t k (i + j) (n + 1) a) is.size
-          ∙ sym (loop_other t k i n (found_at a (drop a t)) is.is (λ y. z (sym y)))
+          ap (λ (j : ℕ). answer_from t k (i + j) (n + 1) o) is.size
+          ∙ sym (loop_other t k i n (sheet_asked o) is.is (λ y. z (sym y)))
 
-  pub turn_stop : (k n a : ℕ) → i < length t → r ≡ line.Other → refuses 23 i ≡ answer_from t k i n a
-  turn_stop k n a h e = sym (loop_stop t k i n (found_at a (drop a t)) h (line_none i (drop i t) (sym q ∙ e)))
+  pub turn_stop : (k n : ℕ) (o : Option Found) → i < length t → line_at i (drop i t) ≡ None → refuses 23 i ≡ answer_from t k i n o
+  turn_stop k n o h e = sym (loop_stop t k i n (sheet_asked o) h (line_none i (drop i t) e))
 
 -- the same of the line itself, in a form that tactics apply
 module _ (t : List ℕ) (i : ℕ) {f : Found} {size : ℕ} where
-  pub turn_grows : line_at i (drop i t) ≡ line.Sentence f size → i ≤ length t → i < i + size
-  turn_grows e h = (turn_room t i {r = line_at i (drop i t)} refl e h).0
+  pub turn_grows : line_at i (drop i t) ≡ Some (f, size) → i ≤ length t → i < i + size
+  turn_grows e h = (turn_room t i e h).0
 
-  pub turn_within : line_at i (drop i t) ≡ line.Sentence f size → i ≤ length t → i + size ≤ length t
-  turn_within e h = (turn_room t i {r = line_at i (drop i t)} refl e h).1
+  pub turn_within : line_at i (drop i t) ≡ Some (f, size) → i ≤ length t → i + size ≤ length t
+  turn_within e h = (turn_room t i e h).1

@@ -1,48 +1,59 @@
-// What leads a text: a word, a code, and what stands after them. Past the end a text holds nothing.
-ghost use Rattle.std.specs.Prelude.{◌≡◌, drop};
-ghost use Rattle.sheet.specs.Reading.{word_length, after_word, byte_of};
-ghost use Rattle.reader.specs.Pieces.{word_code};
+// What leads a text, and what stands after it: literals are passed over by their length. Past the end a text holds nothing.
+ghost use Rattle.std.specs.Prelude.{◌≡◌, length, drop, not, eqb};
+ghost use Rattle.std.specs.List.{prefix_len};
+ghost use Rattle.codes.specs.Lists.{small_code_of};
+ghost use Rattle.sheet.specs.Reading.{word_length, word_of, number_after, rest_after, byte_of};
 
+use codes::Code;
 use codes::texts::small_code_of;
+use spoken::read_number;
 
 // How many bytes stand before the next comma, or the end.
-pub fn word_length(t: &[u8]) -> usize
-    ensures { result ≡ word_length t.now }
+fn word_length(t: &[u8]) -> usize
+    ensures { result ≡ prefix_len (λ b. not (eqb b 44)) t.now }
 {
-    let mut i = 0;
-    while i < t.len() {
-        if t[i] == b',' {
-            return i;
-        }
-        i += 1;
-    }
-    i
+    t.iter().take_while(|b| **b != b',').count()
 }
 
-// The number of the code that the leading word says in a list.
-pub fn code_in(list: usize, t: &[u8]) -> usize
-    ensures { result ≡ word_code list t.now }
+// The leading word, up to the next comma or the end, and what stands after it.
+#[tactic(auto, using(crate::proofs::Words::word_length_is), unfolding(sheet::specs::Reading::word_of))]
+pub fn split_word(t: &[u8]) -> (&[u8], &[u8])
+    ensures { (result.0.now ≡ word_of t.now) × (result.1.now ≡ drop (word_length t.now) t.now) }
 {
-    small_code_of(list, text::first(t, word_length(t)))
+    let end = word_length(t);
+    (text::first(t, end), text::skip(t, end))
 }
 
-// What stands after n bytes and k more.
-pub fn after(t: &[u8], n: usize, k: usize) -> &[u8]
-    ensures { result.now ≡ drop k (drop n t.now) }
+// What stands after a literal.
+pub fn after<'a>(t: &'a [u8], literal: &[u8]) -> &'a [u8]
+    ensures { result.now ≡ drop (length literal.now) t.now }
 {
-    text::skip(text::skip(t, n), k)
+    text::skip(t, literal.len())
 }
 
-// What stands after the leading word and k bytes more.
-pub fn after_word(t: &[u8], k: usize) -> &[u8]
-    ensures { result.now ≡ after_word k t.now }
+// The number after a literal, and what stands after it.
+#[tactic(auto, unfolding(sheet::specs::Reading::number_after, sheet::specs::Reading::rest_after))]
+pub fn number_after<'a>(t: &'a [u8], literal: &[u8]) -> (u32, &'a [u8])
+    ensures { (result.0 ≡ number_after (length literal.now) t.now) × (result.1.now ≡ rest_after (length literal.now) t.now) }
 {
-    after(t, word_length(t), k)
+    let t = after(t, literal);
+    let number = read_number(t, 0);
+    (number.value, text::skip(t, number.end))
 }
 
-// The low byte of a number.
-pub fn low_byte(n: u32) -> u8
-    ensures { result ≡ byte_of n }
+// The low byte of the number after a literal, and what stands after the number.
+pub fn byte_after<'a>(t: &'a [u8], literal: &[u8]) -> (u8, &'a [u8])
+    ensures { (result.0 ≡ byte_of (number_after (length literal.now) t.now)) × (result.1.now ≡ rest_after (length literal.now) t.now) }
 {
-    (n % 0x100) as u8
+    let (number, rest) = number_after(t, literal);
+    ((number % 0x100) as u8, rest)
+}
+
+// The code that the word after a literal says, and what stands after the word.
+pub fn code_after<'a, C: Code>(t: &'a [u8], literal: &[u8]) -> (C, &'a [u8])
+    ensures { let words = drop (length literal.now) t.now in
+        (result.0 ≡ C.value_at (small_code_of C.LIST (word_of words))) × (result.1.now ≡ drop (word_length words) words) }
+{
+    let (word, rest) = split_word(after(t, literal));
+    (C::from_number(small_code_of(C::LIST, word)), rest)
 }

@@ -5,243 +5,180 @@
 
 #![tactic(auto)]
 
-ghost use Rattle.std.specs.Prelude.{◌≤◌, length};
+ghost use Rattle.std.specs.Prelude.{◌<◌, length, IfSome};
 
 use coordinates::Place;
-use events::{Entry, EventId, Receipt, Table};
-use input::Ending;
-use packet::{PacketPlace, PacketSheet};
-use sheet::WriteSheet;
+use events::{Entry, Table};
+use packet::PlaceFault;
+use sheet::Found;
+use std::io;
 
-// The standard output.
-const STDOUT_FILENO: i32 = 1;
-
-// Room for any sentence.
-const SENTENCE_ROOM: usize = 1024;
+// How long an input may be.
+const MOST: usize = 262144;
 
 const KEYS: [u32; 3] = [21, 4294967295, 7];
 
-// The length of a record's front.
-const FRONT: usize = 12;
+// A place near the sound packets' circles, and one out of range.
+const PLACES: [Place; 2] = [
+    Place {
+        lat: 351000000,
+        lon: 1357000000,
+    },
+    Place {
+        lat: 900000001,
+        lon: 0,
+    },
+];
 
-fn print(text: &[u8]) {
-    io::write_all(STDOUT_FILENO, text);
+// Places just west of the date line, on it under both its longitudes, and at a pole.
+const DATE_LINE: [Place; 4] = [
+    Place {
+        lat: -168000000,
+        lon: 1799900000,
+    },
+    Place {
+        lat: 0,
+        lon: 1800000000,
+    },
+    Place {
+        lat: 0,
+        lon: -1800000000,
+    },
+    Place {
+        lat: 900000000,
+        lon: 1800000000,
+    },
+];
+
+// What is to be done, with a letter for its kind.
+#[derive(Clone, Copy)]
+struct Record<'a> {
+    kind: u8,
+    clock: u64,
+    verdict: bool,
+    packet: &'a [u8],
 }
 
-fn print_number(n: u64) {
-    io::print_decimal(STDOUT_FILENO, n);
-}
-
-fn print_spaced(n: u64) {
-    print(b" ");
-    print_number(n);
-}
-
-fn print_refusal(number: u64) {
-    print(b"refused ");
-    print_number(number);
-    print(b" at 0\n");
-}
-
-fn print_receipt(receipt: Receipt) {
-    let number = events::receipt_number(receipt);
-    if number == 0 {
-        print(b"accepted\n");
-    } else {
-        print_refusal(number as u64);
-    }
+fn print_refusal(rt: &impl Print, number: u8) -> io::Result<()> {
+    println!(rt; "refused {number} at 0")
 }
 
 // The packet's sentence, or its refusal.
-fn print_sentence(bytes: &[u8]) {
-    let drawn = packet::packet_sheet(bytes);
-    match drawn {
-        PacketSheet::Sheet(facts) => {
-            let mut own = [0u8; SENTENCE_ROOM];
-            let answer = readback::write_warn(&mut own, 0, facts);
-            print_written(&own, answer);
+fn print_sentence(rt: &impl Print, packet: &[u8]) -> io::Result<()> {
+    match packet::packet_sheet(packet) {
+        Ok(facts) => output::write_sentence(&mut io::writer(rt), packet, Found::Warn(facts)),
+        Err(fault) => print_refusal(rt, fault.into()),
+    }
+}
+
+// Whether the packet's circle holds each of the places.
+fn print_places(rt: &impl Print, packet: &[u8], places: &[Place]) -> io::Result<()> {
+    for place in places {
+        match packet::packet_place(packet, *place) {
+            Ok(true) => println!(rt; "inside")?,
+            Ok(false) => println!(rt; "outside")?,
+            Err(PlaceFault::OutOfRange) => print_refusal(rt, 6)?,
+            Err(PlaceFault::Packet(fault)) => print_refusal(rt, fault.into())?,
         }
-        PacketSheet::Refused(fault) => print_refusal(packet::fault_number(fault) as u64),
     }
+    Ok(())
 }
 
-fn print_written(own: &[u8], answer: WriteSheet) {
-    let WriteSheet::End(end) = answer else {
-        print(b"not written\n");
-        return;
-    };
-    if end <= own.len() {
-        print(&own[..end]);
-    }
-}
-
-// Whether the packet's circle holds a place.
-fn print_place(bytes: &[u8], lat: i32, lon: i32) {
-    let answer = packet::packet_place(bytes, Place { lat, lon });
-    match answer {
-        PacketPlace::Inside => print(b"inside\n"),
-        PacketPlace::Outside => print(b"outside\n"),
-        PacketPlace::OutOfRange => print_refusal(6),
-        PacketPlace::Refused(fault) => print_refusal(packet::fault_number(fault) as u64),
-    }
-}
-
-fn print_entry(i: usize, entry: Entry) {
-    print_number(i as u64);
-    if events::entries::is_set(entry.used) {
-        print(b" used");
+fn print_entry(rt: &impl Print, i: usize, entry: &Entry) -> io::Result<()> {
+    let used = if entry.used != 0 { "used" } else { "free" };
+    let cancelled = if entry.cancelled != 0 {
+        " cancelled"
     } else {
-        print(b" free");
-    }
-    print_spaced(entry.key as u64);
-    print_spaced(entry.event as u64);
-    print_spaced(entry.sequence as u64);
-    if events::entries::is_set(entry.cancelled) {
-        print(b" cancelled");
-    }
-    print_spaced(entry.keep_until);
-    print_spaced(entry.timestamp);
-    print_spaced(entry.expiry);
-    print(b"\n");
+        ""
+    };
+    println!(rt;
+        "{i} {used} {} {} {}{cancelled} {} {} {}",
+        entry.key, entry.event, entry.sequence, entry.keep_until, entry.timestamp, entry.expiry,
+    )
 }
 
-fn print_table(table: Table) {
-    let mut i = 0;
-    while i < 64 {
-        let entry = table.entries[i];
-        if events::entries::is_set(entry.used) | (0 < entry.keep_until) {
-            print_entry(i, entry);
+// The entries that are used, or were once.
+fn print_table(rt: &impl Print, table: &Table) -> io::Result<()> {
+    for (i, entry) in table.entries.iter().enumerate() {
+        if entry.used != 0 || entry.keep_until > 0 {
+            print_entry(rt, i, entry)?;
         }
-        i += 1;
     }
-}
-
-fn print_event(event: EventId) {
-    print_number(event.key as u64);
-    print_spaced(event.event as u64);
-    print(b"\n");
+    Ok(())
 }
 
 // How many events run at a time, and each of them.
-fn print_running(table: Table, time: u64) {
-    let list = events::list_running(table, time);
-    print_number(list.count as u64);
-    print(b"\n");
-    let mut i = 0;
-    while i < 64 {
-        if i < list.count {
-            let event = list.events[i];
-            print_event(event);
+fn print_running(rt: &impl Print, table: &Table, time: u64) -> io::Result<()> {
+    let running = events::list_running(*table, time);
+    println!(rt; "{}", running.count)?;
+    for event in running.events.iter().take(running.count) {
+        println!(rt; "{} {}", event.key, event.event)?;
+    }
+    Ok(())
+}
+
+fn take_record(rt: &impl Print, table: &mut Table, record: Record<'_>) -> io::Result<()> {
+    let Record {
+        kind,
+        clock,
+        verdict,
+        packet,
+    } = record;
+    match kind {
+        b'S' => *table = events::sweep(*table, clock),
+        b'T' => print_table(rt, table)?,
+        b'L' => print_running(rt, table, clock)?,
+        b'P' => print_places(rt, packet, &DATE_LINE)?,
+        _ => {
+            let received = events::receive(*table, packet, &KEYS, verdict, clock);
+            *table = received.table;
+            match received.receipt {
+                Ok(()) => println!(rt; "accepted")?,
+                Err(refusal) => print_refusal(rt, refusal.into())?,
+            }
+            print_sentence(rt, packet)?;
+            print_places(rt, packet, &PLACES)?;
         }
-        i += 1;
     }
+    Ok(())
 }
 
-// The packet's sentence, and its answers for a place near the sound packets' circles and for one out of range.
-fn print_packet(bytes: &[u8]) {
-    print_sentence(bytes);
-    print_place(bytes, 351000000, 1357000000);
-    print_place(bytes, 900000001, 0);
-}
-
-// The packet's answers for places just west of the date line, on it under both its longitudes, and at a pole.
-fn print_date_line(bytes: &[u8]) {
-    print_place(bytes, -168000000, 1799900000);
-    print_place(bytes, 0, 1800000000);
-    print_place(bytes, 0, -1800000000);
-    print_place(bytes, 900000000, 1800000000);
-}
-
-fn take_record(table: Table, kind: u8, clock: u64, verdict: bool, bytes: &[u8]) -> Table {
-    if kind == b'S' {
-        return events::sweep(table, clock);
-    }
-    if kind == b'T' {
-        print_table(table);
-        return table;
-    }
-    if kind == b'L' {
-        print_running(table, clock);
-        return table;
-    }
-    if kind == b'P' {
-        print_date_line(bytes);
-        return table;
-    }
-    let received = events::receive(table, bytes, &KEYS, verdict, clock);
-    let receipt = received.receipt;
-    print_receipt(receipt);
-    print_packet(bytes);
-    let next = received.table;
-    next
-}
-
-// The byte after `i` bytes from `at` on; 0 past the end.
-fn byte_at(input: &[u8], at: usize, i: usize) -> u64
-    ensures { result ≤ 255 }
+// The record that leads an input, and what stands after it: none where not even its front is whole. A packet ends with the input.
+fn next_record(input: &[u8]) -> Option<(Record<'_>, &[u8])>
+    ensures { IfSome result (λ found. length found.1.now < length input.now) }
 {
-    if input.len() <= at {
-        return 0;
-    }
-    if input.len() - at <= i {
-        return 0;
-    }
-    input[at + i] as u64
+    let (kind, rest) = input.split_first()?;
+    let (clock, rest) = rest.split_first_chunk()?;
+    let (verdict, rest) = rest.split_first()?;
+    let (len, rest) = rest.split_first_chunk()?;
+    let len = usize::from(u16::from_be_bytes(*len));
+    let (packet, rest) = rest.split_at(len.min(rest.len()));
+    let record = Record {
+        kind: *kind,
+        clock: u64::from_be_bytes(*clock),
+        verdict: *verdict == 1,
+        packet,
+    };
+    Some((record, rest))
 }
 
-// The big-endian number of some bytes of a record's front.
-fn number_at(input: &[u8], at: usize, width: usize) -> u64 {
-    let mut value: u64 = 0;
-    let mut i = 0;
-    while i < width {
-        value = value % 72057594037927936 * 256 + byte_at(input, at, i);
-        i += 1;
+fn run(rt: &impl Print, input: &[u8]) -> io::Result<()> {
+    let mut table = Table {
+        entries: [Entry::default(); 64],
+    };
+    let mut rest = input;
+    while let Some((record, after)) = next_record(rest) {
+        take_record(rt, &mut table, record)?;
+        rest = after;
     }
-    value
+    Ok(())
 }
 
-fn empty_table() -> Table {
-    let blank = events::entries::blank_entry();
-    Table {
-        entries: [blank; 64],
-    }
-}
-
-fn run(input: &[u8]) {
-    let mut table = empty_table();
-    let mut at = 0;
-    while FRONT <= input.len() - at {
-        let kind = input[at];
-        let clock = number_at(input, at + 1, 8);
-        let verdict = input[at + 9] == 1;
-        let start = at + FRONT;
-        let end = record_end(input, start, number_at(input, at + 10, 2));
-        table = take_record(table, kind, clock, verdict, &input[start..end]);
-        at = end;
-    }
-}
-
-// Where a packet of some length from `start` on ends; at the end of the input where it has fewer bytes.
-fn record_end(input: &[u8], start: usize, len: u64) -> usize
-    requires { start ≤ length input.now }
-    ensures { (start ≤ result) × (result ≤ length input.now) }
-{
-    let n = (len % 65536) as usize;
-    if input.len() - start < n {
-        return input.len();
-    }
-    start + n
-}
-
-fn main(rt: HostRuntime) {
-    let mut records = [0u8; 262144];
-    let mut reader = rt.reader();
-    let read = input::read_input(&mut reader, &mut records);
-    let n = read.length;
-    let ending = read.ending;
-    match ending {
-        Ending::Whole => run(&records[..n]),
-        Ending::More => print(b"input over 262144 bytes\n"),
-        Ending::Failed => print(b"input can't be read\n"),
+fn main(rt: HostRuntime) -> io::Result<()> {
+    let mut buffer = [0u8; MOST + 1];
+    match input::read_input(&mut rt.reader(), &mut buffer) {
+        Ok(records) if records.len() > MOST => println!(rt; "input over {MOST} bytes"),
+        Ok(records) => run(&rt, records),
+        Err(_) => println!(rt; "input can't be read"),
     }
 }

@@ -1,18 +1,16 @@
--- The answers to writing a name, what the test over the table of names says of each of them, and how long names are.
-use mathlib.Core.Path.{◌≡◌, refl, sym}
-use mathlib.Core.Bool.{Bool, true, ◌&&◌}
+-- The answers to writing a name, and how long names are.
+use mathlib.Core.Path.{◌≡◌, refl}
+use mathlib.Core.Bool.{Bool}
 use mathlib.Core.List.{List, []}
 use Prim.Native.Nat.{ℕ, ◌≤◌, ◌<◌}
 use native.Mathlib.Omega.{arith}
-use lib.Dec.{eqb, leb, ltb}
-use lib.ListN.{length, get_or, take, get_or-eq_default}
-use lib.Seq.{length-take-le}
-use borrow.Author.Tests.{eqb-true, leb-true, ltb-true, ltb-false, lt-ltb}
+use lib.Dec.{leb, ltb}
+use lib.ListN.{length, get_or-eq_default}
+use borrow.Author.Tests.{leb-true, ltb-true, ltb-false, lt-ltb}
 use Rattle.text.specs.Answers.{Answer, refuses}
-use Rattle.text.specs.Logic.{by_test, below_at, and_left, and_right, eql_true}
+use Rattle.text.specs.Logic.{by_test, below_at}
 use Rattle.buffer.specs.Writing.{write_text, after_text}
 use Rattle.refusals.specs.Names.{names, name_of, naming, after_name}
-use Rattle.refusals.specs.Table.{is_row, Rows}
 
 -- a number that has a name, which was written
 pub named :
@@ -30,22 +28,6 @@ unnamed d at n e = rw e (refl, refl)
 pub no_name : (n : ℕ) → 25 ≤ n → length (name_of n) ≡ 0
 unfolding names name_of
 no_name n h = rw (get_or-eq_default names [] {n = n} h)
-
-module _ {rows : List (List ℕ)} {lengths : List ℕ} {n : ℕ} (p : Rows rows lengths n) where
-  here : is_row rows lengths n ≡ true
-  here = below_at 25 (is_row rows lengths) p.right n p.number_below
-
-  pub row_length : length (get_or rows n []) ≡ 51
-  row_length = eqb-true (length (get_or rows n [])) 51 (and_left _ _ (and_left _ _ here))
-
-  pub name_within : get_or lengths n 0 ≤ 51
-  name_within = leb-true (get_or lengths n 0) 51 (and_right (eqb (length (get_or rows n [])) 51) _ (and_left _ _ here))
-
-  pub row_name : take (get_or lengths n 0) (get_or rows n []) ≡ name_of n
-  row_name = eql_true _ _ (and_right (eqb (length (get_or rows n [])) 51 && leb (get_or lengths n 0) 51) _ here)
-
-  pub name_length : length (name_of n) ≡ get_or lengths n 0
-  name_length = rw (sym row_name) (length-take-le (get_or lengths n 0) (get_or rows n []) (rw row_length name_within))
 
 -- ---- WARNBOX_LONGEST_NAME of the header is room for every name
 

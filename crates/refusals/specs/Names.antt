@@ -1,10 +1,10 @@
 -- A short name for each refusal of document 01's table "Refusal numbers" and of the requests of document 02, and the answer to writing one into a buffer.
-use Rattle.std.specs.Prelude.{Bool, cond, List, [], ◌∷◌, ℕ, ltb, length, get_or}
+use Rattle.std.specs.Prelude.{Bool, cond, List, [], ◌∷◌, ℕ, Result, Ok, Err, ltb, length, get_or}
 use Rattle.text.specs.Answers.{Answer, gives, refuses}
 use Rattle.text.specs.Ascii.{ascii}
 use Rattle.buffer.specs.Writing.{write_text, after_text}
-use Rattle.refusals.specs.declared.WriteName.{WriteName}
-use Rattle.refusals.specs.declared.WriteName.TheVariants.{End, NotThere, NoRoom}
+use Rattle.refusals.specs.declared.NameError.{NameError}
+use Rattle.refusals.specs.declared.NameError.TheVariants.{NotThere, NoRoom}
 
 -- in the table's order, from number 0 on; no refusal has 0 or 20
 unfoldable pub names : List (List ℕ)
@@ -47,10 +47,10 @@ has_name n = ltb 0 (length (name_of n))
 unfoldable pub naming : List ℕ → ℕ → ℕ → Answer ℕ
 naming d at n = cond (has_name n) (write_text d at (name_of n)) (refuses 21 0)
 
-abbrev pub name_answer : WriteName → Answer ℕ
-name_answer (End e) = gives e
-name_answer NotThere = refuses 21 0
-name_answer NoRoom = refuses 13 0
+abbrev pub name_answer : Result ℕ NameError → Answer ℕ
+name_answer (Ok e) = gives e
+name_answer (Err NotThere) = refuses 21 0
+name_answer (Err NoRoom) = refuses 13 0
 
 -- what the buffer then holds
 unfoldable pub after_name : List ℕ → ℕ → ℕ → List ℕ

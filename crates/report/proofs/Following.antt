@@ -17,7 +17,6 @@ use Rattle.drawn.proofs.Ranges.{drawn_in_range}
 use Rattle.sheet.specs.Sentence.{longest}
 use Rattle.report.specs.Lines.{line_then, lines_from}
 use Rattle.report.specs.PartLine.{line_at, is_sentence}
-use Rattle.report.proofs.Decimal.{one_less}
 use Rattle.report.proofs.Refusing.{refusal_le}
 
 -- no line is longer than a sentence can be
@@ -61,27 +60,32 @@ lines_le l (suc k) n =
 
 -- ---- the lines of `many` parts of l from the n-th on, written into the buffer d
 
--- those of k parts from the m-th on are left to write, into e from the offset at on
-pub record Left (l d : List ℕ) (many n : ℕ) (e : List ℕ) (at m k : ℕ) : Type 0 where
-  pub parts : m + k ≡ n + many
-  pub text : put_text (cursor e at) (lines_from l k m) ≡ put_text (cursor d 0) (lines_from l many n)
+-- those from the m-th on are left to write, into e from the offset at on
+pub record Left (l d : List ℕ) (many n : ℕ) (e : List ℕ) (at m : ℕ) : Type 0 where
+  pub text : put_text (cursor e at) (lines_from l (n + many - m) m) ≡ put_text (cursor d 0) (lines_from l many n)
 
-module _ {l d : List ℕ} {many n : ℕ} {e : List ℕ} {at m k : ℕ} (p : Left l d many n e at m k) where
-  -- after a sentence the next part's line is the first that is left
-  pub left_next : {f : List ℕ} {q : ℕ} → 0 < k → is_sentence (cap_sheet m l) ≡ true → Put e at (line_at l m) f q → Left l d many n f q (m + 1) (k - 1)
-  left_next {f} {q} h t a =
-      let on = ap (λ (j : ℕ). lines_from l j m) (one_less k h) ∙ lines_on l (k - 1) m t in record {
-        parts = omega (arith, p.parts);
-        text = rw a.result (sym (put_append _ (line_at l m) _) ∙ ap (put_text (cursor e at)) (sym on) ∙ p.text);
-      }
+pub left_first : (l d : List ℕ) (many n : ℕ) → Left l d many n d 0 n
+left_first l d many n = let z : n + many - n ≡ many = omega arith in record { text = rw z }
 
-  -- a refusal is the last line
-  pub left_stop : {f : List ℕ} {q : ℕ} → 0 < k → is_sentence (cap_sheet m l) ≡ false → Put e at (line_at l m) f q → Put d 0 (lines_from l many n) f q
-  left_stop h t a =
-      let s = ap (λ (j : ℕ). lines_from l j m) (one_less k h) ∙ lines_stop l (k - 1) m t in
-      record { result = a.result ∙ ap (put_text (cursor e at)) (sym s) ∙ p.text }
+module _ {l d : List ℕ} {many n : ℕ} {e : List ℕ} {at m : ℕ} (p : Left l d many n e at m) where
+  module _ (h : m < n + many) where
+    one_less : n + many - m ≡ suc (n + many - (m + 1))
+    one_less = omega arith
+
+    -- after a sentence the next part's line is the first that is left
+    pub left_next : {f : List ℕ} {q : ℕ} → is_sentence (cap_sheet m l) ≡ true → Put e at (line_at l m) f q → Left l d many n f q (m + 1)
+    left_next t a =
+        let on = ap (λ (j : ℕ). lines_from l j m) one_less ∙ lines_on l (n + many - (m + 1)) m t in
+        record { text = rw a.result (sym (put_append _ (line_at l m) _) ∙ ap (put_text (cursor e at)) (sym on) ∙ p.text) }
+
+    -- a refusal is the last line
+    pub left_stop : {f : List ℕ} {q : ℕ} → is_sentence (cap_sheet m l) ≡ false → Put e at (line_at l m) f q → Put d 0 (lines_from l many n) f q
+    left_stop t a =
+        let s = ap (λ (j : ℕ). lines_from l j m) one_less ∙ lines_stop l (n + many - (m + 1)) m t in
+        record { result = a.result ∙ ap (put_text (cursor e at)) (sym s) ∙ p.text }
 
   -- none is left
-  pub left_none : k ≡ 0 → Put d 0 (lines_from l many n) e at
+  pub left_none : n + many ≤ m → Put d 0 (lines_from l many n) e at
   unfolding put_text lines_from
-  left_none h = record { result = ap (λ (j : ℕ). put_text (cursor e at) (lines_from l j m)) (sym h) ∙ p.text }
+  left_none h = let z : 0 ≡ n + many - m = omega arith in
+      record { result = ap (λ (j : ℕ). put_text (cursor e at) (lines_from l j m)) z ∙ p.text }

@@ -1,17 +1,16 @@
 -- What the program writes: "A program reads one document from standard input and writes each part's sentence (part 0's if none), stopping at the
 -- first refusal with the line "refused N at P" in digits."
-use Rattle.std.specs.Prelude.{cond, List, [], ◌∷◌, ◌++◌, ℕ, zero, suc, ◌+◌, ◌/◌, ◌%◌, ltb, length}
+use Rattle.std.specs.Prelude.{cond, List, [], ◌∷◌, ◌++◌, ℕ, zero, suc, ◌+◌, ◌/◌, ◌%◌, ltb, length, Result, Ok, Err}
 use Prim.Native.Char.{code}
 use Rattle.text.specs.Ascii.{ascii}
 use Rattle.text.specs.Answers.{Answer, gives, refuses}
+use Rattle.buffer.specs.declared.NoRoom.{NoRoom}
 use Rattle.buffer.specs.Writing.{written}
 use Rattle.sheet.specs.declared.Found.{Found}
 use Rattle.sheet.specs.Sentence.{sentence}
 use Rattle.sheet.specs.Reading.{sheet_in}
 use Rattle.document.specs.Documents.{check_of}
 use Rattle.parts.specs.Sheets.{cap_sheet}
-use Rattle.report.specs.declared.Report.{Report}
-use Rattle.report.specs.declared.Report.TheVariants as report
 
 -- a number in digits, of which there are k at most
 unfoldable pub digits_within : ℕ → ℕ → List ℕ
@@ -56,6 +55,6 @@ reported d l = cond (ltb (length d) report_room) (refuses 13 0) (gives (length (
 unfoldable pub reported_in : List ℕ → List ℕ → List ℕ
 reported_in d l = cond (ltb (length d) report_room) d (written d 0 (report_of l))
 
-abbrev pub report_answer : Report → Answer ℕ
-report_answer (report.End e) = gives e
-report_answer report.NoRoom = refuses 13 0
+abbrev pub report_answer : Result ℕ NoRoom → Answer ℕ
+report_answer (Ok e) = gives e
+report_answer (Err e) = refuses 13 0

@@ -4,26 +4,13 @@ ghost use Rattle.buffer.specs.Cursor.{Put, PutAll};
 ghost use Rattle.report.specs.Lines.{in_digits, refusal_line};
 
 use buffer::put;
-use text::skip;
 
-// Enough for any number of 64 bits.
-const MOST_DIGITS: usize = 20;
-
-// Writes as much of a number in digits as fits into dst from the offset at on, and gives the next start. The last digit is found first.
+// Writes as much of a number in digits as fits into dst from the offset at on, and gives the next start.
+#[tactic(auto, using(crate::proofs::Decimal::in_digits_decimal))]
 fn put_digits(dst: &mut [u8], at: usize, n: u64) -> usize
     ensures { Put dst.old at (in_digits n) dst.new result }
 {
-    let mut own = [0u8; MOST_DIGITS];
-    let mut rest = n;
-    let mut i = MOST_DIGITS;
-    loop {
-        i -= 1;
-        own[i] = b'0' + (rest % 10) as u8;
-        rest = rest / 10;
-        if rest == 0 {
-            return put(dst, at, skip(&own, i));
-        }
-    }
+    put(dst, at, itoa::Buffer::new().format(n).as_bytes())
 }
 
 // The same of a number after the text in front of it.

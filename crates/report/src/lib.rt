@@ -5,7 +5,7 @@
 ghost use Rattle.std.specs.Prelude.{◌≡◌};
 ghost use Rattle.report.specs.Lines.{reported, reported_in, report_answer};
 
-use document::Check;
+use buffer::NoRoom;
 
 mod digits; // digits.rt: numbers in digits, and the line of a refusal
 mod lines; // lines.rt: the lines of parts
@@ -13,30 +13,16 @@ mod lines; // lines.rt: the lines of parts
 // Room for any report.
 pub const ROOM: usize = 12_000;
 
-// Where a report ends, or that the buffer has less than ROOM bytes.
-#[derive(Drop)]
-pub enum Report {
-    End(usize),
-    NoRoom,
-}
-
-// Writes all that the program says about a document over the front of a buffer.
-pub fn write_report(buffer: &mut [u8], s: &[u8]) -> Report
+// Writes all that the program says about a document over the front of a buffer of ROOM bytes at least, and gives its end.
+pub fn write_report(buffer: &mut [u8], s: &[u8]) -> Result<usize, NoRoom>
     ensures { (report_answer result ≡ reported buffer.old s.now) × (buffer.new ≡ reported_in buffer.old s.now) }
 {
     if buffer.len() < ROOM {
-        return Report::NoRoom;
+        return Err(NoRoom);
     }
-    let checked = document::check_document(s);
-    match checked {
-        Check::Refused(number, offset) => {
-            Report::End(digits::put_refusal(buffer, 0, number, offset))
-        }
-        Check::Accepted(parts) => {
-            if parts == 0 {
-                return Report::End(lines::put_lines(buffer, s, 0, 1));
-            }
-            Report::End(lines::put_lines(buffer, s, 1, parts))
-        }
-    }
+    Ok(match document::check_document(s) {
+        Ok(0) => lines::put_lines(buffer, s, 0, 1),
+        Ok(parts) => lines::put_lines(buffer, s, 1, parts),
+        Err(refusal) => digits::put_refusal(buffer, 0, refusal.fault.into(), refusal.offset),
+    })
 }

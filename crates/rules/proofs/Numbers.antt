@@ -1,6 +1,6 @@
 -- The numbers that rules give.
 use mathlib.Core.Path.{◌≡◌, refl}
-use mathlib.Core.Bool.{true, false, false≢true, ◌&&◌, ◌||◌}
+use mathlib.Core.Bool.{false, ◌&&◌, ◌||◌}
 use mathlib.Core.List.{List, [], ◌∷◌}
 use Prim.Native.Nat.{ℕ}
 use lib.Dec.{eqb, leb, ltb}
@@ -17,10 +17,7 @@ use Rattle.schema.specs.Classes as class
 use Rattle.rules.specs.Codes.{code_of, has_codes}
 use Rattle.rules.specs.Texts.{name_rule, code_rule, time_rule, polygon_rule, circle_rule, is_time, text_rule}
 
--- a polygon's text, by the test for it
-pub polygon_kept : (t : List ℕ) → is_polygon t ≡ true → 0 ≡ answer_number (polygon_of t)
-polygon_kept t = polygon_cases t (λ a. is_given a ≡ true → 0 ≡ answer_number a) (λ ring e. refl) (λ e. absurd (false≢true e))
-
+-- a text that is no polygon's
 pub polygon_broken : (t : List ℕ) → is_polygon t ≡ false → 22 ≡ answer_number (polygon_of t)
 polygon_broken t = polygon_cases t (λ a. is_given a ≡ false → 22 ≡ answer_number a) (λ ring e. clash (cc)) (λ e. refl)
 

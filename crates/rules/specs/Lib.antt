@@ -1,3 +1,4 @@
+pub mod Faults
 pub mod Codes
 pub mod Texts
 pub mod Samples

@@ -3,126 +3,121 @@
 #![tactic(auto)]
 
 ghost use Rattle.std.specs.Prelude.{◌≡◌};
-ghost use Rattle.rules.specs.Codes.{list_of, has_codes};
-ghost use Rattle.rules.specs.Texts.{name_rule, code_rule, time_rule, polygon_rule, circle_rule, is_time, text_rule};
+ghost use Rattle.rules.specs.Codes.{list_of};
+ghost use Rattle.rules.specs.Faults.{fault_number, rule_number};
+ghost use Rattle.rules.specs.Texts.{name_rule, time_rule, polygon_rule, circle_rule, text_rule};
 
-use circle::Circle;
 use codes::list;
 use codes::texts::code_of;
 use schema::class;
 use sheet::ranges::all_name_bytes;
-use time::Time;
 
-// The rule of sender and identifier.
-fn name_rule(t: &[u8]) -> u8
-    ensures { result ≡ name_rule t.now }
-{
-    if 128 < t.len() {
-        return 14;
-    }
-    if t.len() == 0 {
-        return 19;
-    }
-    if all_name_bytes(t) {
-        return 0;
-    }
-    19
+// Why a document is refused.
+#[derive(Clone, Copy, Debug, PartialEq, Eq)]
+pub enum Fault {
+    TooLong,
+    Form,
+    Element,
+    Code,
+    Time,
+    Name,
+    Shape,
 }
 
-// The code list of a class; 8, which is none, for a class without codes.
-fn list_of(class: usize) -> usize
+// Its number.
+impl From<Fault> for u8 {
+    ghost from_gives = { λ f n. n ≡ fault_number f };
+
+    fn from(f: Fault) -> u8 {
+        match f {
+            Fault::TooLong => 14,
+            Fault::Form => 15,
+            Fault::Element => 16,
+            Fault::Code => 17,
+            Fault::Time => 18,
+            Fault::Name => 19,
+            Fault::Shape => 22,
+        }
+    }
+}
+
+// How many bytes sender and identifier may have.
+const MAX_NAME: usize = 128;
+
+// The rule of sender and identifier.
+#[tactic(auto, unfolding(crate::specs::Texts::name_rule))]
+fn name_rule(t: &[u8]) -> Result<(), Fault>
+    ensures { rule_number result ≡ name_rule t.now }
+{
+    if MAX_NAME < t.len() {
+        return Err(Fault::TooLong);
+    }
+    if t.is_empty() || !all_name_bytes(t) {
+        return Err(Fault::Name);
+    }
+    Ok(())
+}
+
+// The code list of a class.
+fn list_of(class: usize) -> Option<usize>
     ensures { result ≡ list_of class }
 {
     match class {
-        class::STATUS => list::STATUS,
-        class::MSG_TYPE => list::MSG_TYPE,
-        class::SCOPE => list::SCOPE,
-        class::CATEGORY => list::CATEGORY,
-        class::RESPONSE_TYPE => list::RESPONSE_TYPE,
-        class::URGENCY => list::URGENCY,
-        class::SEVERITY => list::SEVERITY,
-        class::CERTAINTY => list::CERTAINTY,
-        _ => 8,
+        class::STATUS => Some(list::STATUS),
+        class::MSG_TYPE => Some(list::MSG_TYPE),
+        class::SCOPE => Some(list::SCOPE),
+        class::CATEGORY => Some(list::CATEGORY),
+        class::RESPONSE_TYPE => Some(list::RESPONSE_TYPE),
+        class::URGENCY => Some(list::URGENCY),
+        class::SEVERITY => Some(list::SEVERITY),
+        class::CERTAINTY => Some(list::CERTAINTY),
+        _ => None,
     }
-}
-
-// Whether texts of a class are codes.
-fn has_codes(class: usize) -> bool
-    ensures { result ≡ has_codes class }
-{
-    list_of(class) < 8
-}
-
-// The rule of codes.
-fn code_rule(class: usize, t: &[u8]) -> u8
-    ensures { result ≡ code_rule class t.now }
-{
-    if code_of(list_of(class), t) == 0 {
-        return 17;
-    }
-    0
 }
 
 // The rule of times.
-fn time_rule(t: &[u8]) -> u8
-    ensures { result ≡ time_rule t.now }
+#[tactic(auto, unfolding(crate::specs::Texts::time_rule))]
+fn time_rule(t: &[u8]) -> Result<(), Fault>
+    ensures { rule_number result ≡ time_rule t.now }
 {
-    let read = time::read_time(t);
-    match read {
-        Time::Instant(i) => 0,
-        Time::Fault => 18,
-    }
+    time::read_time(t).ok_or(Fault::Time)?;
+    Ok(())
 }
 
 // The rule of polygons.
-fn polygon_rule(t: &[u8]) -> u8
-    ensures { result ≡ polygon_rule t.now }
+#[tactic(auto, using(crate::proofs::Numbers::polygon_broken), unfolding(crate::specs::Texts::polygon_rule))]
+fn polygon_rule(t: &[u8]) -> Result<(), Fault>
+    ensures { rule_number result ≡ polygon_rule t.now }
 {
     if polygon::is_polygon(t) {
-        return 0;
+        Ok(())
+    } else {
+        Err(Fault::Shape)
     }
-    22
 }
 
 // The rule of circles.
-fn circle_rule(t: &[u8]) -> u8
-    ensures { result ≡ circle_rule t.now }
+#[tactic(auto, unfolding(crate::specs::Texts::circle_rule))]
+fn circle_rule(t: &[u8]) -> Result<(), Fault>
+    ensures { rule_number result ≡ circle_rule t.now }
 {
-    let read = circle::read_circle(t);
-    match read {
-        Circle::Around(centre, metres) => 0,
-        Circle::Fault => 22,
-    }
+    circle::read_circle(t).ok_or(Fault::Shape)?;
+    Ok(())
 }
 
-// Whether texts of a class are times.
-fn is_time(class: usize) -> bool
-    ensures { result ≡ is_time class }
+// Whether a text of a class keeps to its rule; a class without one takes any text.
+#[tactic(auto, unfolding(crate::specs::Texts::text_rule, crate::specs::Texts::code_rule))]
+pub fn text_rule(class: usize, t: &[u8]) -> Result<(), Fault>
+    ensures { rule_number result ≡ text_rule class t.now }
 {
-    (class == class::SENT)
-        | (class == class::EFFECTIVE)
-        | (class == class::ONSET)
-        | (class == class::EXPIRES)
-}
-
-// The number of the refusal that a text of a class gives; 0 for a text that keeps to its rule.
-pub fn text_rule(class: usize, t: &[u8]) -> u8
-    ensures { result ≡ text_rule class t.now }
-{
-    if (class == class::IDENTIFIER) | (class == class::SENDER) {
-        return name_rule(t);
+    match class {
+        class::IDENTIFIER | class::SENDER => name_rule(t),
+        class::SENT | class::EFFECTIVE | class::ONSET | class::EXPIRES => time_rule(t),
+        class::POLYGON => polygon_rule(t),
+        class::CIRCLE => circle_rule(t),
+        _ => match list_of(class) {
+            Some(list) if code_of(list, t) == 0 => Err(Fault::Code),
+            _ => Ok(()),
+        },
     }
-    if has_codes(class) {
-        return code_rule(class, t);
-    }
-    if is_time(class) {
-        return time_rule(t);
-    }
-    if class == class::POLYGON {
-        return polygon_rule(t);
-    }
-    if class == class::CIRCLE {
-        return circle_rule(t);
-    }
-    0
 }

@@ -1,5 +1,5 @@
 -- Worked samples: whole documents, their sheets with the sentences that say them, and places inside and outside their parts, with the reasons.
-use Rattle.std.specs.Prelude.{◌≡◌, refl, List, [], ◌++◌, ℕ, ◌*◌, pos}
+use Rattle.std.specs.Prelude.{Some, ◌≡◌, refl, List, [], ◌++◌, ℕ, ◌*◌, pos}
 use Rattle.text.specs.Ascii.{ascii}
 use Rattle.text.specs.Bytes.{number_from}
 use Rattle.text.specs.Tokens.{on_token, longer, tokens}
@@ -22,8 +22,6 @@ use Rattle.codes.specs.declared.Scope.TheVariants as scope
 use Rattle.codes.specs.declared.Urgency.TheVariants as urgency
 use Rattle.codes.specs.declared.Severity.TheVariants as severity
 use Rattle.codes.specs.declared.Certainty.TheVariants as certainty
-use Rattle.sheet.specs.declared.Lasting.TheVariants.{Seconds}
-use Rattle.sheet.specs.declared.Parts.TheVariants.{OnePart}
 use Rattle.sheet.specs.Sheet.{all_name_bytes}
 use Rattle.sheet.specs.Sentence.{sentence, sentence_in, cap_text, parts_text, part_text, lasting_text}
 use Rattle.sheet.specs.declared.Found.{Found}
@@ -115,13 +113,13 @@ kiln seconds =
       status = status.Actual;
       scope = scope.Public;
       parts =
-          OnePart (record {
+          Some (record {
             number = 1;
             total = 1;
             urgency = urgency.Immediate;
             severity = severity.Extreme;
             certainty = certainty.Observed;
-            lasting = Seconds seconds;
+            lasting = Some seconds;
           });
     })
     (record { start = 88; len = 12 })

@@ -15,12 +15,14 @@ use Rattle.schema.specs.Tables.{entry_at, is_right, Tabled, is_owner, Owned}
 
 -- ---- what may follow
 
-module _ {first n width : ℕ} {table : List (List ℕ)} {columns : List ℕ} {s c : ℕ} (p : Tabled first n width table columns s c) where
+module _
+    {first n width : ℕ} {table : List (List ℕ)} {columns : List ℕ} (p : Tabled first n width table columns) {s c : ℕ} (f : first ≤ s) (b : s < first + n)
+    (d : c < classes) where
   abbrev here : ℕ
   here = entry_at table columns (s - first) c
 
   right_here : is_right first width table columns (s - first) c ≡ true
-  right_here = below_both n classes (is_right first width table columns) p.right (s - first) c (omega arith) p.class_below
+  right_here = below_both n classes (is_right first width table columns) p.right (s - first) c (omega arith) d
 
   -- the column is one of the table's
   pub column_below : get_or columns c 0 < width

@@ -1,5 +1,5 @@
 -- What the code's tables have to say, each by one test over the whole table. Private functions take a table that passes its test.
-use Rattle.std.specs.Prelude.{Bool, ◌&&◌, ◌||◌, List, [], ℕ, ◌+◌, ◌-◌, ◌*◌, ◌%◌, ◌≤◌, ◌<◌, T, eqb, leb, ltb, length, get_or}
+use Rattle.std.specs.Prelude.{Bool, ◌&&◌, ◌||◌, List, [], ℕ, ◌+◌, ◌-◌, ◌*◌, ◌%◌, ◌<◌, T, eqb, leb, ltb, length, get_or}
 use Rattle.text.specs.Logic.{below}
 use Rattle.schema.specs.Classes.{name_of}
 use Rattle.schema.specs.Sequences.{next_of, container_of, states, classes}
@@ -15,12 +15,9 @@ abbrev pub is_right : (first width : ℕ) → List (List ℕ) → List ℕ → �
 is_right first width table columns s c =
     ltb (get_or columns c 0) width && (ltb (entry_at table columns s c) states && eqb (entry_at table columns s c) (next_of (first + s) c))
 
--- a table is right in each of a container's n states, which start at first, and a state and a class are among those that it has
-pub record Tabled (first n width : ℕ) (table : List (List ℕ)) (columns : List ℕ) (state class : ℕ) : Type 0 where
+-- a table is right in each of a container's n states, which start at first
+pub record Tabled (first n width : ℕ) (table : List (List ℕ)) (columns : List ℕ) : Type 0 where
   pub right : T (below n (λ (s : ℕ). below classes (is_right first width table columns s)))
-  pub state_from : first ≤ state
-  pub state_below : state < first + n
-  pub class_below : class < classes
 
 -- ---- the container of each state
 

@@ -1,32 +1,63 @@
 // Names of elements.
-ghost use Rattle.std.specs.Prelude.{◌≡◌, ◌+◌, ◌-◌, ◌*◌, ◌%◌, ◌≤◌, ◌<◌};
+ghost use Rattle.std.specs.Prelude.{◌≡◌, ◌+◌, ◌*◌, ◌%◌, ◌≤◌, ◌<◌};
 ghost use Rattle.text.specs.Logic.{eql};
-ghost use Rattle.text.specs.Spelling.{Spelt};
 ghost use Rattle.schema.specs.Classes.{name_of, class_of};
 ghost use Rattle.schema.specs.Tables.{Hashed};
 
-// The names, one after the other in the order of their classes, in four texts of 13 classes each, named by their first class; and where the name of
-// each class starts in its text. The name of class 0 is empty, and so is that of 51, which is no class. There are four texts because the compiler
-// copies a constant wherever it is used: the fewer bytes, the faster.
-const TEXT_0: [u8; 79] =
-    *b"alertinforesourceareaeventCodeparametergeocodeidentifiersendersentstatusmsgType";
-
-const STARTS_0: [u8; 14] = [0, 0, 5, 9, 17, 21, 30, 39, 46, 56, 62, 66, 72, 79];
-
-const TEXT_13: [u8; 98] =
-    *b"sourcescoperestrictionaddressescodenotereferencesincidentslanguagecategoryeventresponseTypeurgency";
-
-const STARTS_13: [u8; 14] = [0, 6, 11, 22, 31, 35, 39, 49, 58, 66, 74, 79, 91, 98];
-
-const TEXT_26: [u8; 108] =
-    *b"severitycertaintyaudienceeffectiveonsetexpiressenderNameheadlinedescriptioninstructionwebcontactresourceDesc";
-
-const STARTS_26: [u8; 14] = [0, 8, 17, 25, 34, 39, 46, 56, 64, 75, 86, 89, 96, 108];
-
-const TEXT_39: [u8; 79] =
-    *b"mimeTypesizeuriderefUridigestareaDescpolygoncirclealtitudeceilingvalueNamevalue";
-
-const STARTS_39: [u8; 14] = [0, 8, 12, 15, 23, 29, 37, 44, 50, 58, 65, 74, 79, 79];
+// The names in the order of their classes; that of class 0 is empty.
+const NAMES: [&[u8]; 51] = [
+    b"",
+    b"alert",
+    b"info",
+    b"resource",
+    b"area",
+    b"eventCode",
+    b"parameter",
+    b"geocode",
+    b"identifier",
+    b"sender",
+    b"sent",
+    b"status",
+    b"msgType",
+    b"source",
+    b"scope",
+    b"restriction",
+    b"addresses",
+    b"code",
+    b"note",
+    b"references",
+    b"incidents",
+    b"language",
+    b"category",
+    b"event",
+    b"responseType",
+    b"urgency",
+    b"severity",
+    b"certainty",
+    b"audience",
+    b"effective",
+    b"onset",
+    b"expires",
+    b"senderName",
+    b"headline",
+    b"description",
+    b"instruction",
+    b"web",
+    b"contact",
+    b"resourceDesc",
+    b"mimeType",
+    b"size",
+    b"uri",
+    b"derefUri",
+    b"digest",
+    b"areaDesc",
+    b"polygon",
+    b"circle",
+    b"altitude",
+    b"ceiling",
+    b"valueName",
+    b"value",
+];
 
 // The only class that a name can have, by a hash of its length and three of its letters.
 const HASHED: [u8; 128] = [
@@ -37,42 +68,12 @@ const HASHED: [u8; 128] = [
     28, 0, 12, 0, 0, 0, 38, 0, 26, 11, 49, 0, 0, 0,
 ];
 
-// Whether a text is the name of a class, which stands between its start and the next.
-fn is_spelt(t: &[u8], names: &[u8], starts: &[u8; 14], first: usize, class: usize) -> bool
-    requires { (first ≤ class) × Spelt (λ k. name_of (first + k)) 13 names.now starts.now (class - first) }
-    ensures { result ≡ eql t.now (name_of class) }
-{
-    let index = class - first;
-    let start = starts[index] as usize;
-    let end = starts[index + 1] as usize;
-    text::equals(t, &names[start..end])
-}
-
-// Whether a text is the name of a class.
+// Whether a text is the name of a class; a number that is no class has the empty name.
+#[tactic(auto, unfolding(crate::specs::Classes::names))]
 pub fn is_named(t: &[u8], class: usize) -> bool
     ensures { result ≡ eql t.now (name_of class) }
 {
-    if class < 13 {
-        let names = TEXT_0;
-        let starts = STARTS_0;
-        return is_spelt(t, &names, &starts, 0, class);
-    }
-    if class < 26 {
-        let names = TEXT_13;
-        let starts = STARTS_13;
-        return is_spelt(t, &names, &starts, 13, class);
-    }
-    if class < 39 {
-        let names = TEXT_26;
-        let starts = STARTS_26;
-        return is_spelt(t, &names, &starts, 26, class);
-    }
-    if class < 51 {
-        let names = TEXT_39;
-        let starts = STARTS_39;
-        return is_spelt(t, &names, &starts, 39, class);
-    }
-    t.len() == 0
+    text::equals(t, text::entry(&NAMES, class))
 }
 
 // A hash of a text's length and three of its letters.
@@ -89,14 +90,10 @@ fn candidate(t: &[u8], hashed: &[u8; 128]) -> usize
     ensures { (result < 51) × (((class_of t.now ≡ 0) → ⊥) → result ≡ class_of t.now) }
 {
     let n = t.len();
-    if n < 3 {
+    if n < 3 || 12 < n {
         return 0;
     }
-    if 12 < n {
-        return 0;
-    }
-    let h = hash(n, t[0], t[2], t[n - 1]);
-    hashed[h] as usize
+    hashed[hash(n, t[0], t[2], t[n - 1])] as usize
 }
 
 // The class of a name, 0 where no element has it.
@@ -104,8 +101,5 @@ pub fn class_of(t: &[u8]) -> usize
     ensures { result ≡ class_of t.now }
 {
     let class = candidate(t, &HASHED);
-    if is_named(t, class) {
-        return class;
-    }
-    0
+    if is_named(t, class) { class } else { 0 }
 }

@@ -2,33 +2,22 @@
 
 #![tactic(auto)]
 
-use input::Ending;
-use report::{ROOM, Report};
+use report::ROOM;
+use std::io;
 
-// The standard output.
-const STDOUT_FILENO: i32 = 1;
-
-fn print_report(document: &[u8]) {
+#[tactic(auto, using(crate::proofs::Within::end_within))]
+fn print_report(rt: &impl Print, document: &[u8]) -> io::Result<()> {
     let mut lines = [0u8; ROOM];
-    let report = report::write_report(&mut lines, document);
-    let Report::End(end) = report else {
-        return;
-    };
-    if end <= ROOM {
-        io::write_all(STDOUT_FILENO, &lines[..end]);
+    match report::write_report(&mut lines, document) {
+        Ok(end) => rt.write_all(&lines[..end]),
+        Err(_) => Ok(()), // never: there is room for any report
     }
 }
 
-fn main(rt: HostRuntime) {
-    let mut document = [0u8; 65537]; // one byte more than a document may have: what follows can't change the answer
-    let mut reader = rt.reader();
-    let read = input::read_input(&mut reader, &mut document);
-    let n = read.length;
-    let ending = read.ending;
-    match ending {
-        Ending::Whole | Ending::More => print_report(&document[..n]),
-        Ending::Failed => {
-            io::write_all(STDOUT_FILENO, b"input can't be read\n");
-        }
+fn main(rt: HostRuntime) -> io::Result<()> {
+    let mut buffer = [0u8; document::MAX_LENGTH + 1]; // one byte more than a document may have: what follows can't change the answer
+    match input::read_input(&mut rt.reader(), &mut buffer) {
+        Ok(document) => print_report(&rt, document),
+        Err(_) => println!(rt; "input can't be read"),
     }
 }

@@ -4,6 +4,7 @@ use mathlib.Core.Bool.{Bool, true, false, ◌&&◌}
 use mathlib.Core.List.{List, [], ◌∷◌, ◌++◌, append_assoc}
 use Prim.Native.Nat.{ℕ, zero, suc}
 use lib.ListN.{get_or}
+use Rattle.std.specs.Prelude.{Option, Some, None}
 use Rattle.text.specs.Ascii.{ascii}
 use Rattle.text.specs.Logic.{and_left, and_right, and_assoc}
 use Rattle.codes.specs.Lists.{lists, is_number, small_text}
@@ -12,11 +13,7 @@ use Rattle.codes.proofs.Each.{each_at}
 use Rattle.codes.proofs.Numbers.{Numbers, message_numbers, status_numbers, scope_numbers, urgency_numbers, severity_numbers, certainty_numbers}
 use Rattle.words.specs.Words.{dictionary, word, spaced, number_codes, said}
 use Rattle.words.specs.Duration.{duration_codes, lasting}
-use Rattle.sheet.specs.declared.Lasting.{Lasting}
-use Rattle.sheet.specs.declared.Lasting.TheVariants.{Unstated, Seconds}
 use Rattle.sheet.specs.declared.Part.{Part}
-use Rattle.sheet.specs.declared.Parts.{Parts}
-use Rattle.sheet.specs.declared.Parts.TheVariants.{NoPart, OnePart}
 use Rattle.sheet.specs.declared.CapFacts.{CapFacts}
 use Rattle.sheet.specs.declared.WarnFacts.{WarnFacts}
 use Rattle.sheet.specs.Sheet.{Sheet, cap, warn}
@@ -67,10 +64,10 @@ code_ascii {l = l} {k = k} n = each_at is_ascii_code tt l k n.listed
 
 -- ---- a CAP sheet
 
-lasting_text_ascii : (x : Lasting) → all_ascii (lasting_text plain x) ≡ true
+lasting_text_ascii : (x : Option ℕ) → all_ascii (lasting_text plain x) ≡ true
 unfolding lasting_text all_ascii
-lasting_text_ascii Unstated = refl
-lasting_text_ascii (Seconds s) = lasting_ascii s
+lasting_text_ascii None = refl
+lasting_text_ascii (Some s) = lasting_ascii s
 
 part_ascii : (p : Part) → all_ascii (part_text plain p) ≡ true
 unfolding part_text all_ascii
@@ -84,10 +81,10 @@ part_ascii p =
       lasting_text_ascii,
     )
 
-parts_ascii : (p : Parts) → all_ascii (parts_text plain p) ≡ true
+parts_ascii : (p : Option Part) → all_ascii (parts_text plain p) ≡ true
 unfolding parts_text all_ascii
-parts_ascii NoPart = refl
-parts_ascii (OnePart p) = part_ascii p
+parts_ascii None = refl
+parts_ascii (Some p) = part_ascii p
 
 module _ (f : CapFacts) (sender name : List ℕ) where
   cap_front : List ℕ

@@ -7,17 +7,14 @@ use native.Mathlib.Omega.{arith}
 use lib.Dec.{leb}
 use lib.ListN.{length, length-append}
 use borrow.Author.Tests.{leb-true}
+use Rattle.std.specs.Prelude.{Option, Some, None}
 use Rattle.text.specs.Ascii.{ascii}
 use Rattle.text.specs.Logic.{below_at}
 use Rattle.codes.proofs.Numbers.{message_numbers, status_numbers, scope_numbers, urgency_numbers, severity_numbers, certainty_numbers}
 use Rattle.words.specs.Words.{dictionary, word, spaced, ones, below_hundred, below_thousand, group, number_codes, said}
 use Rattle.words.specs.Duration.{counted, duration_codes, lasting}
 use Rattle.words.proofs.Lengths.{said_le, short_le, lasting_le}
-use Rattle.sheet.specs.declared.Lasting.{Lasting}
-use Rattle.sheet.specs.declared.Lasting.TheVariants.{Unstated, Seconds}
 use Rattle.sheet.specs.declared.Part.{Part}
-use Rattle.sheet.specs.declared.Parts.{Parts}
-use Rattle.sheet.specs.declared.Parts.TheVariants.{NoPart, OnePart}
 use Rattle.sheet.specs.declared.CapFacts.{CapFacts}
 use Rattle.sheet.specs.declared.WarnFacts.{WarnFacts}
 use Rattle.sheet.specs.Sheet.{Sheet, cap, warn, is_lasting_time, is_parts, fits_packet, in_range}
@@ -36,12 +33,12 @@ byte_le n h = leb-true (length (said n)) 26 (below_at 0x100 byte_fits tt n h)
 
 -- ---- a CAP sheet
 
-lasting_text_le : (x : Lasting) → is_lasting_time x ≡ true → length (lasting_text plain x) ≤ 93
+lasting_text_le : (x : Option ℕ) → is_lasting_time x ≡ true → length (lasting_text plain x) ≤ 93
 unfolding lasting_text
-lasting_text_le Unstated e = omega arith
-lasting_text_le (Seconds s) e = lasting_le s (omega (arith, lasting_range s e))
+lasting_text_le None e = omega arith
+lasting_text_le (Some s) e = lasting_le s (omega (arith, lasting_range s e))
 
-part_text_le : (p : Part) → is_parts (OnePart p) ≡ true → length (part_text plain p) ≤ 197
+part_text_le : (p : Part) → is_parts (Some p) ≡ true → length (part_text plain p) ≤ 197
 unfolding part_text
 part_text_le p e =
     let r = part_range p e in
@@ -56,10 +53,10 @@ part_text_le p e =
       lasting_text_le p.lasting r.lasting,
     ))
 
-parts_text_le : (p : Parts) → is_parts p ≡ true → length (parts_text plain p) ≤ 197
+parts_text_le : (p : Option Part) → is_parts p ≡ true → length (parts_text plain p) ≤ 197
 unfolding parts_text
-parts_text_le NoPart e = omega arith
-parts_text_le (OnePart p) e = part_text_le p e
+parts_text_le None e = omega arith
+parts_text_le (Some p) e = part_text_le p e
 
 cap_text_le : (f : CapFacts) (sender name : List ℕ) → CapRange f sender name → length (cap_text plain f sender name) ≤ 507
 unfolding cap_text

@@ -8,10 +8,10 @@ use native.Mathlib.Omega.{arith}
 use lib.Dec.{eqb, leb, ltb}
 use lib.ListN.{length}
 use borrow.Author.Tests.{leb-true, ltb-true, not-true}
+use Rattle.std.specs.Prelude.{Some}
 use Rattle.text.specs.Logic.{and_left, and_right}
 use Rattle.words.specs.Duration.{is_lasting}
 use Rattle.sheet.specs.declared.Part.{Part}
-use Rattle.sheet.specs.declared.Parts.TheVariants.{OnePart}
 use Rattle.sheet.specs.declared.CapFacts.{CapFacts}
 use Rattle.sheet.specs.declared.WarnFacts.{WarnFacts}
 use Rattle.sheet.specs.Sheet.{cap, warn, is_name_byte, all_name_bytes, holds_cdata_end, is_name, is_lasting_time, is_parts, fits_packet, in_range}
@@ -61,7 +61,7 @@ pub record PartRange (p : Part) : Type 0 where
   pub total : p.total ≤ 16
   pub lasting : is_lasting_time p.lasting ≡ true
 
-pub part_range : (p : Part) → is_parts (OnePart p) ≡ true → PartRange p
+pub part_range : (p : Part) → is_parts (Some p) ≡ true → PartRange p
 unfolding is_parts
 part_range p e =
     let h = and_four (leb 1 p.number) (leb p.number p.total) (leb p.total 16) (is_lasting_time p.lasting) e in

@@ -1,15 +1,14 @@
 -- Lines: a text starts with a read-back exactly where it starts with the sentence of a sheet in range.
 use mathlib.Core.Path.{◌≡◌, sym, ap, ◌∙◌}
-use mathlib.Core.Bool.{Bool, true, false, true≢false, false≢true}
+use mathlib.Core.Bool.{true, false, true≢false}
 use mathlib.Core.List.{List, ◌++◌}
 use Prim.Native.Nat.{ℕ, ◌≤◌, ◌<◌}
 use native.Mathlib.Omega.{arith}
 use lib.ListN.{length, drop, length-append}
 use lib.Seq.{drop-append_seam}
+use Rattle.std.specs.Prelude.{Option, Some, None, unwrap_or}
 use Rattle.text.specs.Logic.{by_test, and_left, and_right}
 use Rattle.sheet.specs.declared.Found.{Found}
-use Rattle.sheet.specs.declared.Line.{Line}
-use Rattle.sheet.specs.declared.Line.TheVariants as line
 use Rattle.text.specs.Parts.{starts_with}
 use Rattle.text.proofs.Parts.{starts_own}
 use Rattle.sheet.specs.Sheet.{Sheet, cap, warn, in_range}
@@ -68,30 +67,21 @@ not_line l e x rest h q = true≢false (sym (is_line_lem x rest h) ∙ sym (ap i
 
 -- ---- the reader's answer on one line
 
-sentence_at : Line → Bool
-sentence_at (line.Sentence f n) = true
-sentence_at line.Other = false
-
-length_at : Line → ℕ
-length_at (line.Sentence f n) = n
-length_at line.Other = 0
-
-found_or : Found → Line → Found
-found_or d (line.Sentence f n) = f
-found_or d line.Other = d
-
 pub record IsLine (i : ℕ) (l : List ℕ) (f : Found) (n : ℕ) : Type 0 where
   pub is : is_line l ≡ true
   pub found : f ≡ found_at i l
   pub size : n ≡ line_length l
 
-pub line_is : (i : ℕ) (l : List ℕ) (f : Found) (n : ℕ) → line_at i l ≡ line.Sentence f n → IsLine i l f n
-unfolding line_at line_length sentence_at length_at found_or
+pub line_is : (i : ℕ) (l : List ℕ) (f : Found) (n : ℕ) → line_at i l ≡ Some (f, n) → IsLine i l f n
+unfolding line_at line_length
 line_is i l f n e =
     by_test (is_line l)
-    (λ p. let q = rw (line_at, p) at e in record { is = p; found = sym (ap (found_or f) q); size = sym (ap length_at q) })
-    (λ p. absurd (false≢true (ap sentence_at (rw (line_at, p) at e))))
+    (λ p.
+    let q = rw (line_at, p) at e in
+    let same = ap (λ (o : Option (Found × ℕ)). unwrap_or o (f, n)) (sym q) in
+    record { is = p; found = ap (λ (x : Found × ℕ). x.0) same; size = ap (λ (x : Found × ℕ). x.1) same })
+    (λ p. let q = rw (line_at, p) at e in cc)
 
-pub line_none : (i : ℕ) (l : List ℕ) → line_at i l ≡ line.Other → is_line l ≡ false
-unfolding line_at sentence_at
-line_none i l e = by_test (is_line l) (λ p. p ∙ ap sentence_at (rw (line_at, p) at e)) (λ p. p)
+pub line_none : (i : ℕ) (l : List ℕ) → line_at i l ≡ None → is_line l ≡ false
+unfolding line_at
+line_none i l e = by_test (is_line l) (λ p. let q = rw (line_at, p) at e in cc) (λ p. p)

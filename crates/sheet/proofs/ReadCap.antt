@@ -5,6 +5,7 @@ use mathlib.Core.List.{List, [], ◌++◌, append_assoc}
 use Prim.Native.Nat.{ℕ, ◌%◌, ◌≤◌, ◌<◌}
 use native.Mathlib.Omega.{arith}
 use lib.ListN.{drop}
+use Rattle.std.specs.Prelude.{Option, Some, None}
 use Rattle.text.specs.Ascii.{ascii}
 use Rattle.text.specs.Logic.{by_test}
 use Rattle.codes.proofs.Numbers.{message_numbers, status_numbers, scope_numbers, urgency_numbers, severity_numbers, certainty_numbers}
@@ -14,11 +15,7 @@ use Rattle.words.specs.Duration.{lasting}
 use Rattle.words.specs.Reading.{word_at, index_in, code_of, nothing, number_at, duration_at, ends_number, ends_duration}
 use Rattle.words.proofs.Steps.{number_stop, counts_stop}
 use Rattle.words.proofs.ReadNumber.{spaced_no_letter, ends_comma, ends_of}
-use Rattle.sheet.specs.declared.Lasting.{Lasting}
-use Rattle.sheet.specs.declared.Lasting.TheVariants.{Unstated, Seconds}
 use Rattle.sheet.specs.declared.Part.{Part}
-use Rattle.sheet.specs.declared.Parts.{Parts}
-use Rattle.sheet.specs.declared.Parts.TheVariants.{NoPart, OnePart}
 use Rattle.sheet.specs.declared.CapFacts.{CapFacts}
 use Rattle.codes.specs.Values.{message_text, status_text, scope_text, urgency_text, severity_text, certainty_text}
 use Rattle.text.specs.Parts.{starts_with}
@@ -47,13 +44,13 @@ no_lasting s t h g e =
     absurd (omega (arith, sym (duration_value s t g e) ∙ q ∙ no_duration (drop 4 (lasting s ++ t)))))
     (λ p. p)
 
-pub lasting_read : (x : Lasting) (t : List ℕ) → is_lasting_time x ≡ true → ends_duration t ≡ true → lasting_of (lasting_text plain x ++ t) ≡ x
+pub lasting_read : (x : Option ℕ) (t : List ℕ) → is_lasting_time x ≡ true → ends_duration t ≡ true → lasting_of (lasting_text plain x ++ t) ≡ x
 unfolding lasting_of lasting_text starts_with
-lasting_read Unstated t h e = refl
-lasting_read (Seconds s) t h e =
+lasting_read None t h e = refl
+lasting_read (Some s) t h e =
     let r = lasting_range s h in
     let g : s < 4_294_967_296 = omega arith in
-    rw (no_lasting s t r.0 g e) (ap Seconds (duration_value s t g e))
+    rw (no_lasting s t r.0 g e) (ap Some (duration_value s t g e))
 
 -- ---- a part
 
@@ -65,7 +62,7 @@ ends_total : (k : ℕ) (t : List ℕ) → ends_number (ascii " of" ++ (said k ++
 unfolding said
 ends_total k t = ends_of (said k ++ (ascii ", " ++ t)) (spaced_no_letter (number_codes k) (ascii ", " ++ t) refl)
 
-part_read : (p : Part) (t : List ℕ) → is_parts (OnePart p) ≡ true → ends_duration t ≡ true → part_of (part_text plain p ++ t) ≡ p
+part_read : (p : Part) (t : List ℕ) → is_parts (Some p) ≡ true → ends_duration t ≡ true → part_of (part_text plain p ++ t) ≡ p
 unfolding part_text part_of from_total from_urgency from_severity from_certainty from_lasting word_length
 part_read p t h e =
     let r = part_range p h in
@@ -92,18 +89,18 @@ starts_part : (p : Part) (t : List ℕ) → starts_with (ascii ", part") (part_t
 unfolding starts_with part_text
 starts_part p t = refl
 
-pub parts_read : (p : Parts) (t : List ℕ) → is_parts p ≡ true → ends_duration t ≡ true → parts_of (parts_text plain p ++ t) ≡ p
+pub parts_read : (p : Option Part) (t : List ℕ) → is_parts p ≡ true → ends_duration t ≡ true → parts_of (parts_text plain p ++ t) ≡ p
 unfolding parts_of parts_text starts_with
-parts_read NoPart t h e = refl
-parts_read (OnePart p) t h e = rw (starts_part p t) (ap OnePart (part_read p t h e))
+parts_read None t h e = refl
+parts_read (Some p) t h e = rw (starts_part p t) (ap Some (part_read p t h e))
 
 -- ---- the whole sentence
 
 -- ", part" or ", no parts"
-parts_comma : (p : Parts) (t : List ℕ) → word_length (parts_text plain p ++ t) ≡ 0
+parts_comma : (p : Option Part) (t : List ℕ) → word_length (parts_text plain p ++ t) ≡ 0
 unfolding word_length parts_text part_text
-parts_comma NoPart t = refl
-parts_comma (OnePart p) t = refl
+parts_comma None t = refl
+parts_comma (Some p) t = refl
 
 pub record CapRead (f : CapFacts) (sender name l : List ℕ) : Type 0 where
   pub facts : cap_of l ≡ f

@@ -1,13 +1,15 @@
 -- The answers of the writer and of the reader (document 01, "The sentence" and "Refusal numbers").
-use Rattle.std.specs.Prelude.{cond, List, [], ◌∷◌, ℕ, zero, suc, ◌+◌, length, drop}
+use Rattle.std.specs.Prelude.{Some, None, Result, Ok, Err, cond, List, [], ◌∷◌, ℕ, zero, suc, ◌+◌, length, drop}
+use Rattle.std.specs.declared.option.Option as code
 use Rattle.std.proofs.Math.Option.{Option, none, some}
 use Rattle.text.specs.Answers.{Answer, gives, refuses, answer_and_then, giving}
 use Rattle.buffer.specs.Writing.{write_text, after_text}
 use Rattle.sheet.specs.declared.Found.{Found}
-use Rattle.sheet.specs.declared.WriteSheet.{WriteSheet}
-use Rattle.sheet.specs.declared.WriteSheet.TheVariants.{End, OutOfRange, NoRoom}
+use Rattle.sheet.specs.declared.WriteError.{WriteError}
+use Rattle.sheet.specs.declared.WriteError.TheVariants.{OutOfRange, NoRoom}
 use Rattle.sheet.specs.declared.ReadBack.{ReadBack}
-use Rattle.sheet.specs.declared.ReadBack.TheVariants as readback
+use Rattle.sheet.specs.declared.ReadError.{ReadError}
+use Rattle.sheet.specs.declared.ReadError.TheVariants.{NotReadBack, NotThere}
 use Rattle.sheet.specs.Sheet.{Sheet, in_range}
 use Rattle.sheet.specs.Sentence.{sentence}
 use Rattle.sheet.specs.Reading.{sheet_of, is_line, found_at}
@@ -22,10 +24,10 @@ writing d at x = cond (in_range x) (write_text d at (sentence x)) (refuses 23 0)
 unfoldable pub after : List ℕ → ℕ → Sheet → List ℕ
 after d at x = cond (in_range x) (after_text d at (sentence x)) d
 
-abbrev pub write_answer : WriteSheet → Answer ℕ
-write_answer (End e) = gives e
-write_answer OutOfRange = refuses 23 0
-write_answer NoRoom = refuses 13 0
+abbrev pub write_answer : Result ℕ WriteError → Answer ℕ
+write_answer (Ok e) = gives e
+write_answer (Err OutOfRange) = refuses 23 0
+write_answer (Err NoRoom) = refuses 13 0
 
 -- ---- "Reading back: 23, 21."
 
@@ -62,8 +64,12 @@ asked (suc k) fs = pick (length fs) fs k
 unfoldable pub read_back : List ℕ → ℕ → Answer (ℕ × Option Found)
 read_back t k = answer_and_then (contents_of t) (asked k)
 
-abbrev pub read_answer : ReadBack → Answer (ℕ × Option Found)
-read_answer (readback.Count n) = gives (n, none)
-read_answer (readback.Sheet n f) = gives (n, some f)
-read_answer (readback.NotReadBack p) = refuses 23 p
-read_answer readback.NotThere = refuses 21 0
+-- the code's `Option` as the definitions'
+abbrev pub sheet_asked : code.Option Found → Option Found
+sheet_asked (Some f) = some f
+sheet_asked None = none
+
+abbrev pub read_answer : Result ReadBack ReadError → Answer (ℕ × Option Found)
+read_answer (Ok r) = gives (r.count, sheet_asked r.sheet)
+read_answer (Err (NotReadBack p)) = refuses 23 p
+read_answer (Err NotThere) = refuses 21 0

@@ -1,6 +1,6 @@
 -- Reading a sentence. It is read loosely first: literals are passed over by their length, and nothing is checked. The text is a read-back exactly
 -- where it starts with the sentence of what was read, and that is in range; proofs/ has the laws that make this reading exact.
-use Rattle.std.specs.Prelude.{Bool, cond, ◌&&◌, not, List, [], ◌∷◌, ◌++◌, ℕ, ◌+◌, ◌-◌, ◌%◌, eqb, length, take, drop, get_or}
+use Rattle.std.specs.Prelude.{Option, Some, None, Bool, cond, ◌&&◌, not, List, [], ◌∷◌, ◌++◌, ℕ, ◌+◌, ◌-◌, ◌%◌, eqb, length, take, drop, get_or}
 use Prim.Native.Char.{code}
 use Rattle.text.specs.Bytes.{leading}
 use Rattle.text.specs.Ascii.{ascii}
@@ -14,18 +14,12 @@ use Rattle.codes.specs.declared.Scope.{Scope}
 use Rattle.codes.specs.declared.Urgency.{Urgency}
 use Rattle.codes.specs.declared.Severity.{Severity}
 use Rattle.codes.specs.declared.Certainty.{Certainty}
-use Rattle.sheet.specs.declared.Lasting.{Lasting}
-use Rattle.sheet.specs.declared.Lasting.TheVariants.{Unstated, Seconds}
 use Rattle.sheet.specs.declared.Part.{Part}
-use Rattle.sheet.specs.declared.Parts.{Parts}
-use Rattle.sheet.specs.declared.Parts.TheVariants.{NoPart, OnePart}
 use Rattle.sheet.specs.declared.CapFacts.{CapFacts}
 use Rattle.sheet.specs.declared.WarnFacts.{WarnFacts}
 use Rattle.sheet.specs.declared.Span.{Span}
 use Rattle.sheet.specs.declared.Found.{Found}
 use Rattle.sheet.specs.declared.Found.TheVariants as found
-use Rattle.sheet.specs.declared.Line.{Line}
-use Rattle.sheet.specs.declared.Line.TheVariants as line
 use Rattle.text.specs.Parts.{starts_with}
 use Rattle.sheet.specs.Sheet.{Sheet, cap, warn, in_range}
 use Rattle.sheet.specs.Sentence.{sentence}
@@ -120,8 +114,8 @@ from_certainty l = after_word (length (ascii ", ")) (from_severity l)
 unfoldable pub from_lasting : List ℕ → List ℕ
 from_lasting l = after_word (length (ascii ", lasts")) (from_certainty l)
 
-unfoldable pub lasting_of : List ℕ → Lasting
-lasting_of l = cond (starts_with (ascii " no ") l) Unstated (Seconds (duration_at 0 l).value)
+unfoldable pub lasting_of : List ℕ → Option ℕ
+lasting_of l = cond (starts_with (ascii " no ") l) None (Some (duration_at 0 l).value)
 
 unfoldable pub part_of : List ℕ → Part
 part_of l = record {
@@ -133,8 +127,8 @@ part_of l = record {
   lasting = lasting_of (from_lasting l);
 }
 
-unfoldable pub parts_of : List ℕ → Parts
-parts_of l = cond (starts_with (ascii ", part") l) (OnePart (part_of l)) NoPart
+unfoldable pub parts_of : List ℕ → Option Part
+parts_of l = cond (starts_with (ascii ", part") l) (Some (part_of l)) None
 
 unfoldable pub cap_of : List ℕ → CapFacts
 cap_of l = record {
@@ -232,5 +226,6 @@ sheet_of l = sheet_in l (found_at 0 l)
 unfoldable pub is_line : List ℕ → Bool
 is_line l = in_range (sheet_of l) && starts_with (sentence (sheet_of l)) l
 
-unfoldable pub line_at : ℕ → List ℕ → Line
-line_at i l = cond (is_line l) (line.Sentence (found_at i l) (length (sentence (sheet_of l)))) line.Other
+-- the sheet of the read-back that a text starts with, and its length
+unfoldable pub line_at : ℕ → List ℕ → Option (Found × ℕ)
+line_at i l = cond (is_line l) (Some (found_at i l, length (sentence (sheet_of l)))) None

@@ -1,5 +1,5 @@
 -- The three whole samples of document 01, as the sentences of their sheets.
-use Rattle.std.specs.Prelude.{◌≡◌, refl, true, false}
+use Rattle.std.specs.Prelude.{Some, None, ◌≡◌, refl, true, false}
 use Rattle.text.specs.Ascii.{ascii}
 use Rattle.words.specs.Words.{dictionary, word, spaced, ones, below_hundred, below_thousand, group, number_codes, said}
 use Rattle.words.specs.Duration.{counted, duration_codes, lasting}
@@ -9,8 +9,6 @@ use Rattle.codes.specs.declared.Scope.TheVariants as scope
 use Rattle.codes.specs.declared.Urgency.TheVariants as urgency
 use Rattle.codes.specs.declared.Severity.TheVariants as severity
 use Rattle.codes.specs.declared.Certainty.TheVariants as certainty
-use Rattle.sheet.specs.declared.Lasting.TheVariants.{Seconds}
-use Rattle.sheet.specs.declared.Parts.TheVariants.{NoPart, OnePart}
 use Rattle.codes.specs.Lists.{lists, small_text}
 use Rattle.sheet.specs.Sheet.{Sheet, cap, warn}
 use Rattle.sheet.specs.Sentence.{sentence, sentence_in, cap_text, parts_text, part_text, lasting_text, warn_text, flags_text, flag, origin_text, hazard_text}
@@ -23,13 +21,13 @@ kiln_alert =
       status = status.Actual;
       scope = scope.Public;
       parts =
-          OnePart (record {
+          Some (record {
             number = 1;
             total = 1;
             urgency = urgency.Immediate;
             severity = severity.Extreme;
             certainty = certainty.Observed;
-            lasting = Seconds 900;
+            lasting = Some 900;
           });
     })
     (ascii "kiln.example")
@@ -38,7 +36,7 @@ kiln_alert =
 abbrev pub kiln_cancel : Sheet
 kiln_cancel =
     cap
-    (record { message = message.Cancel; status = status.Actual; scope = scope.Public; parts = NoPart })
+    (record { message = message.Cancel; status = status.Actual; scope = scope.Public; parts = None })
     (ascii "kiln.example")
     (ascii "A18")
 

@@ -1,13 +1,9 @@
 -- The sentence of a sheet (document 01, "The sentence"). Numbers and durations bring the space in front of each of their words.
-use Rattle.std.specs.Prelude.{◌≡◌, Bool, true, cond, ◌&&◌, List, [], ◌∷◌, ◌++◌, ℕ, ltb}
+use Rattle.std.specs.Prelude.{Option, Some, None, ◌≡◌, Bool, true, cond, ◌&&◌, List, [], ◌∷◌, ◌++◌, ℕ, ltb}
 use Rattle.text.specs.Ascii.{ascii}
 use Rattle.words.specs.Words.{said}
 use Rattle.words.specs.Duration.{lasting}
-use Rattle.sheet.specs.declared.Lasting.{Lasting}
-use Rattle.sheet.specs.declared.Lasting.TheVariants.{Unstated, Seconds}
 use Rattle.sheet.specs.declared.Part.{Part}
-use Rattle.sheet.specs.declared.Parts.{Parts}
-use Rattle.sheet.specs.declared.Parts.TheVariants.{NoPart, OnePart}
 use Rattle.sheet.specs.declared.CapFacts.{CapFacts}
 use Rattle.sheet.specs.declared.WarnFacts.{WarnFacts}
 use Rattle.codes.specs.Values.{message_text, status_text, scope_text, urgency_text, severity_text, certainty_text}
@@ -24,9 +20,9 @@ plain = record { opening = []; period = lasting }
 
 module _ (w : Wording) where
   -- "cap alert, actual, public, from kiln.example, name A17, part one of one, immediate, extreme, observed, lasts fifteen minutes."
-  unfoldable pub lasting_text : Lasting → List ℕ
-  lasting_text Unstated = ascii " no stated time"
-  lasting_text (Seconds s) = w.period s
+  unfoldable pub lasting_text : Option ℕ → List ℕ
+  lasting_text None = ascii " no stated time"
+  lasting_text (Some s) = w.period s
 
   unfoldable pub part_text : Part → List ℕ
   part_text p =
@@ -36,9 +32,9 @@ module _ (w : Wording) where
       ++ (ascii ", " ++ (certainty_text p.certainty
       ++ (ascii ", lasts" ++ lasting_text p.lasting))))))))))
 
-  unfoldable pub parts_text : Parts → List ℕ
-  parts_text NoPart = ascii ", no parts"
-  parts_text (OnePart p) = part_text p
+  unfoldable pub parts_text : Option Part → List ℕ
+  parts_text None = ascii ", no parts"
+  parts_text (Some p) = part_text p
 
   unfoldable pub cap_text : CapFacts → List ℕ → List ℕ → List ℕ
   cap_text f sender name =

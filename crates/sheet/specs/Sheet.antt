@@ -1,13 +1,11 @@
 -- Fact sheets and their ranges (document 01, "The sentence").
-use Rattle.std.specs.Prelude.{Bool, true, false, not, ◌&&◌, ◌||◌, List, [], ◌∷◌, ℕ, eqb, leb, ltb, length}
+use Rattle.std.specs.Prelude.{Option, Some, None, Bool, true, false, not, ◌&&◌, ◌||◌, List, [], ◌∷◌, ℕ, eqb, leb, ltb, length}
+use Rattle.std.specs.List.{list_all}
 use Prim.Native.Char.{code}
 use Rattle.text.specs.Ascii.{ascii}
 use Rattle.text.specs.Parts.{starts_with}
 use Rattle.words.specs.Duration.{is_lasting}
-use Rattle.sheet.specs.declared.Lasting.{Lasting}
-use Rattle.sheet.specs.declared.Lasting.TheVariants.{Unstated, Seconds}
-use Rattle.sheet.specs.declared.Parts.{Parts}
-use Rattle.sheet.specs.declared.Parts.TheVariants.{NoPart, OnePart}
+use Rattle.sheet.specs.declared.Part.{Part}
 use Rattle.sheet.specs.declared.CapFacts.{CapFacts}
 use Rattle.sheet.specs.declared.WarnFacts.{WarnFacts}
 
@@ -22,8 +20,7 @@ abbrev pub is_name_byte : ℕ → Bool
 is_name_byte b = ltb 0x20 b && not (eqb b (code ",")) && not (eqb b (code "<")) && not (eqb b (code "&"))
 
 unfoldable pub all_name_bytes : List ℕ → Bool
-all_name_bytes [] = true
-all_name_bytes (b ∷ l) = is_name_byte b && all_name_bytes l
+all_name_bytes l = list_all is_name_byte l
 
 unfoldable pub holds_cdata_end : List ℕ → Bool
 holds_cdata_end [] = false
@@ -34,13 +31,13 @@ is_name l = leb 1 (length l) && leb (length l) 128 && all_name_bytes l && not (h
 
 -- ---- "total to 16, part 1 to total or both 0, any lasting time 1 to 31,536,000 seconds, WARN's other fields any value of their width"
 
-abbrev pub is_lasting_time : Lasting → Bool
-is_lasting_time Unstated = true
-is_lasting_time (Seconds s) = is_lasting s
+abbrev pub is_lasting_time : Option ℕ → Bool
+is_lasting_time None = true
+is_lasting_time (Some s) = is_lasting s
 
-unfoldable pub is_parts : Parts → Bool
-is_parts NoPart = true
-is_parts (OnePart p) = leb 1 p.number && leb p.number p.total && leb p.total 16 && is_lasting_time p.lasting
+unfoldable pub is_parts : Option Part → Bool
+is_parts None = true
+is_parts (Some p) = leb 1 p.number && leb p.number p.total && leb p.total 16 && is_lasting_time p.lasting
 
 -- WARN's fields by their width in the packet
 unfoldable pub fits_packet : WarnFacts → Bool

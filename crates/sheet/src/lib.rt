@@ -10,12 +10,8 @@ use codes::{Certainty, MessageType, Scope, Severity, Status, Urgency};
 
 pub mod ranges; // ranges.rt: the ranges of a sheet's facts
 
-// How long a CAP part lasts: document 01's lasting time, in seconds, or its absence.
-#[derive(Clone, Copy)]
-pub enum Lasting {
-    Unstated,
-    Seconds(u32),
-}
+// How long a CAP part lasts: document 01's lasting time, in seconds; none where no time is stated.
+pub type Lasting = Option<u32>;
 
 // A part of a CAP alert: an info element, by its number among all of them.
 #[derive(Clone, Copy)]
@@ -28,12 +24,8 @@ pub struct Part {
     pub lasting: Lasting,
 }
 
-// The part that a sheet tells of; document 01's part 0 of 0 is `NoPart`.
-#[derive(Clone, Copy)]
-pub enum Parts {
-    NoPart,
-    OnePart(Part),
-}
+// The part that a sheet tells of; document 01's part 0 of 0 is none.
+pub type Parts = Option<Part>;
 
 // The facts of a CAP sheet but its sender and name, which are bytes beside it.
 #[derive(Clone, Copy)]
@@ -78,26 +70,23 @@ pub enum Found {
     Warn(WarnFacts),
 }
 
-// What stands at an offset of a text: a read-back with its sheet and its length, or something else.
-#[derive(Clone, Copy)]
-pub enum Line {
-    Sentence(Found, usize),
-    Other,
-}
-
-// The answer to writing a sheet: where its sentence ends, or a refusal.
-#[derive(Clone, Copy)]
-pub enum WriteSheet {
-    End(usize),
+// Why a sheet was not written: a fact is out of range, or its sentence has no room.
+#[derive(Clone, Copy, Debug, PartialEq, Eq)]
+pub enum WriteError {
     OutOfRange,
     NoRoom,
 }
 
-// The answer to reading a text back: how many read-backs it has and, where one was asked for, its sheet; or a refusal.
+// What a text reads back as: how many read-backs it has and, where one was asked for, its sheet.
 #[derive(Clone, Copy)]
-pub enum ReadBack {
-    Count(usize),
-    Sheet(usize, Found),
+pub struct ReadBack {
+    pub count: usize,
+    pub sheet: Option<Found>,
+}
+
+// Why a text was not read back: at an offset stands what is no read-back, or the one asked for is not there.
+#[derive(Clone, Copy, Debug, PartialEq, Eq)]
+pub enum ReadError {
     NotReadBack(usize),
     NotThere,
 }

@@ -7,7 +7,7 @@ ghost use Rattle.std.specs.Prelude.{◌≡◌};
 ghost use Rattle.sheet.specs.Answers.{writing, write_answer, after};
 ghost use Rattle.shown.specs.Slices.{sender_in, name_in, sheet_with};
 
-use sheet::{CapFacts, Span, WriteSheet, span_in};
+use sheet::{CapFacts, Span, WriteError, span_in};
 
 // The facts of a CAP sheet, with where its sender and its name stand in a text.
 #[derive(Clone, Copy)]
@@ -24,51 +24,44 @@ pub struct ShownSheet<'a> {
     pub facts: Facts,
 }
 
-// The sender that the facts show in a text.
-fn sender_in(text: &[u8], facts: Facts) -> &[u8]
-    ensures { result.now ≡ sender_in text.now facts }
-{
-    span_in(text, facts.sender)
-}
+impl<'a> ShownSheet<'a> {
+    // The sheet of facts and the text in which its sender and name stand.
+    pub fn new(text: &'a [u8], facts: Facts) -> ShownSheet<'a>
+        ensures { (result.text ≡ text.entry) × (result.facts ≡ facts) }
+    {
+        ShownSheet { text, facts }
+    }
 
-// The name that the facts show in a text.
-fn name_in(text: &[u8], facts: Facts) -> &[u8]
-    ensures { result.now ≡ name_in text.now facts }
-{
-    span_in(text, facts.name)
-}
+    // The sheet's sender, a part of its text.
+    pub fn sender(self) -> &'a [u8]
+        ensures { result.now ≡ sender_in self.entry.text.now self.entry.facts }
+    {
+        span_in(self.text, self.facts.sender)
+    }
 
-// The sheet of facts and the text in which its sender and name stand.
-pub fn make<'a>(text: &'a [u8], facts: Facts) -> ShownSheet<'a>
-    ensures { (result.text ≡ text.entry) × (result.facts ≡ facts) }
-{
-    ShownSheet { text, facts }
-}
+    // The sheet's name, a part of its text.
+    pub fn name(self) -> &'a [u8]
+        ensures { result.now ≡ name_in self.entry.text.now self.entry.facts }
+    {
+        span_in(self.text, self.facts.name)
+    }
 
-// The sheet's sender, a part of its text.
-pub fn sender<'a>(s: ShownSheet<'a>) -> &'a [u8]
-    ensures { result.now ≡ sender_in s.entry.text.now s.entry.facts }
-{
-    sender_in(s.text, s.facts)
-}
-
-// The sheet's name, a part of its text.
-pub fn name<'a>(s: ShownSheet<'a>) -> &'a [u8]
-    ensures { result.now ≡ name_in s.entry.text.now s.entry.facts }
-{
-    name_in(s.text, s.facts)
-}
-
-// Writes the sheet's sentence, of the sender and the name that it shows.
-pub fn write<'a>(buffer: &mut [u8], start: usize, s: ShownSheet<'a>) -> WriteSheet
-    ensures { (write_answer result ≡ writing buffer.old start (sheet_with s.entry.text.now s.entry.facts)) × (buffer.new ≡ after buffer.old start (sheet_with s.entry.text.now s.entry.facts)) }
-{
-    readback::write_cap(buffer, start, s.facts.facts, sender(s), name(s))
+    // Writes the sheet's sentence, of the sender and the name that it shows.
+    pub fn write(self, buffer: &mut [u8], start: usize) -> Result<usize, WriteError>
+        ensures { (write_answer result ≡ writing buffer.old start (sheet_with self.entry.text.now self.entry.facts)) × (buffer.new ≡ after buffer.old start (sheet_with self.entry.text.now self.entry.facts)) }
+    {
+        readback::write_cap(buffer, start, self.facts.facts, self.sender(), self.name())
+    }
 }
 
 // Writes the sentence of the sheet that the facts make with a text. Its parameters are plain, so no caller's proof meets the sheet.
-pub fn write_shown(buffer: &mut [u8], start: usize, text: &[u8], facts: Facts) -> WriteSheet
+pub fn write_shown(
+    buffer: &mut [u8],
+    start: usize,
+    text: &[u8],
+    facts: Facts,
+) -> Result<usize, WriteError>
     ensures { (write_answer result ≡ writing buffer.old start (sheet_with text.now facts)) × (buffer.new ≡ after buffer.old start (sheet_with text.now facts)) }
 {
-    write(buffer, start, make(text, facts))
+    ShownSheet::new(text, facts).write(buffer, start)
 }

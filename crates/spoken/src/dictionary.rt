@@ -1,22 +1,54 @@
 // The words of numbers and units. A word's code is its index among them.
-ghost use Rattle.std.specs.Prelude.{◌≡◌, [], ◌∷◌, ◌+◌, ◌*◌, ◌%◌, ◌<◌};
+ghost use Rattle.std.specs.Prelude.{◌≡◌, [], ◌∷◌, ◌<◌};
 ghost use Rattle.buffer.specs.Cursor.{Put};
-ghost use Rattle.text.specs.Spelling.{Spelt};
-ghost use Rattle.words.specs.Words.{spaced};
+ghost use Rattle.words.specs.Words.{word, spaced};
 ghost use Rattle.words.specs.Reading.{code_of};
-ghost use Rattle.spoken.specs.Tables.{Hashed};
 
 use buffer::put;
-use text::{equals, skip};
+use text::entry;
 
-// All words in the order of their codes, each after a space.
-const TEXT: [u8; 267] =
-    *b" zero one two three four five six seven eight nine ten eleven twelve thirteen fourteen fifteen sixteen seventeen eighteen nineteen twenty thirty forty fifty sixty seventy eighty ninety hundred thousand million billion day days hour hours minute minutes second seconds";
-
-// Where each word's space stands in TEXT, and where the last word ends.
-const STARTS: [u16; 41] = [
-    0, 5, 9, 13, 19, 24, 29, 33, 39, 45, 50, 54, 61, 68, 77, 86, 94, 102, 112, 121, 130, 137, 144,
-    150, 156, 162, 170, 177, 184, 192, 201, 209, 217, 221, 226, 231, 237, 244, 252, 259, 267,
+// All words in the order of their codes.
+const WORDS: [&[u8]; 40] = [
+    b"zero",
+    b"one",
+    b"two",
+    b"three",
+    b"four",
+    b"five",
+    b"six",
+    b"seven",
+    b"eight",
+    b"nine",
+    b"ten",
+    b"eleven",
+    b"twelve",
+    b"thirteen",
+    b"fourteen",
+    b"fifteen",
+    b"sixteen",
+    b"seventeen",
+    b"eighteen",
+    b"nineteen",
+    b"twenty",
+    b"thirty",
+    b"forty",
+    b"fifty",
+    b"sixty",
+    b"seventy",
+    b"eighty",
+    b"ninety",
+    b"hundred",
+    b"thousand",
+    b"million",
+    b"billion",
+    b"day",
+    b"days",
+    b"hour",
+    b"hours",
+    b"minute",
+    b"minutes",
+    b"second",
+    b"seconds",
 ];
 
 // The code of a word by its length, from 3 letters on, and a hash of its letters. No two words of one length have the same hash.
@@ -60,54 +92,40 @@ pub const SECONDS: usize = 39;
 // The code of any other word: the number of the words.
 pub const UNKNOWN: usize = 40;
 
-// The word of code w after a space, which stands between its start and the next.
-fn spaced_word<'a>(words: &'a [u8], starts: &'a [u16; 41], w: usize) -> &'a [u8]
-    requires { Spelt (λ k. spaced (k ∷ [])) 40 words.now starts.now w }
-    ensures { result.now ≡ spaced (w ∷ []) }
+// The word of a code; empty where there is none.
+#[tactic(auto, unfolding(words::specs::Words::dictionary, words::specs::Words::word))]
+fn word_of(w: usize) -> &'static [u8]
+    ensures { result.now ≡ word w }
 {
-    let start = starts[w] as usize;
-    let end = starts[w + 1] as usize;
-    &words[start..end]
+    entry(&WORDS, w)
 }
 
 // Writes the word of code w after a space.
 pub fn put_word(dst: &mut [u8], at: usize, w: usize) -> usize
-    requires { w < 40 }
     ensures { Put dst.old at (spaced (w ∷ [])) dst.new result }
 {
-    put(dst, at, spaced_word(&TEXT, &STARTS, w))
-}
-
-// A hash of three letters.
-fn hash(first: u8, second: u8, last: u8) -> usize
-    ensures { result ≡ (first + 4 * second + last) % 18 }
-{
-    (first as usize + 4 * (second as usize) + last as usize) % 18
+    let a = put(dst, at, b" ");
+    put(dst, a, word_of(w))
 }
 
 // The only code that a word can have if it has one.
-fn candidate(word: &[u8], hashed: &[[u8; 18]; 7]) -> usize
-    requires { Hashed hashed.now }
+fn candidate(word: &[u8]) -> usize
     ensures { (result < 40) × (code_of word.now < 40 → result ≡ code_of word.now) }
 {
-    let n = word.len();
-    if n < 3 {
+    let [first, second, .., last] = word else {
         return 0;
+    };
+    let hash = (*first as usize + 4 * (*second as usize) + *last as usize) % 18;
+    match HASHED.get(word.len() - 3) {
+        Some(codes) => codes[hash] as usize,
+        None => 0,
     }
-    if 9 < n {
-        return 0;
-    }
-    let h = hash(word[0], word[1], word[n - 1]);
-    hashed[n - 3][h] as usize
 }
 
 // The code of a word; UNKNOWN where it is none of the words.
 pub fn code_of(word: &[u8]) -> usize
     ensures { result ≡ code_of word.now }
 {
-    let w = candidate(word, &HASHED);
-    if equals(word, skip(spaced_word(&TEXT, &STARTS, w), 1)) {
-        return w;
-    }
-    UNKNOWN
+    let w = candidate(word);
+    if word == word_of(w) { w } else { UNKNOWN }
 }

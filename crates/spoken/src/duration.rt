@@ -10,7 +10,6 @@ use crate::number::put_number;
 // A count and its unit, the singular for a count of one; nothing where the count is 0.
 #[tactic(auto, using(words::proofs::Cases::counted_none, words::proofs::Cases::counted_one, words::proofs::Cases::counted_many, buffer::proofs::Chain::put_none, buffer::proofs::Chain::put_then))]
 fn put_counted(dst: &mut [u8], at: usize, n: u32, one: usize, many: usize) -> usize
-    requires { (one < 40) × (many < 40) }
     ensures { Put dst.old at (spaced (counted n one many)) dst.new result }
 {
     if n == 0 {
@@ -24,6 +23,7 @@ fn put_counted(dst: &mut [u8], at: usize, n: u32, one: usize, many: usize) -> us
 }
 
 // Writes as much of a number of seconds in words as fits into dst from `at` on, nothing for 0 seconds, and gives the next start.
+#[tactic(auto, using(words::proofs::Cases::lasting_parts, buffer::proofs::Chain::put_then))]
 pub fn put_duration(dst: &mut [u8], at: usize, s: u32) -> usize
     ensures { Put dst.old at (lasting s) dst.new result }
 {

@@ -16,7 +16,7 @@ ghost use Rattle.words.specs.Reading.{number_at, duration_at};
 use crate::duration::put_duration;
 use crate::number::put_number;
 use crate::reading::{duration_at, number_at};
-use buffer::{WriteText, write_text};
+use buffer::{NoRoom, write_text};
 use text::{first, skip};
 use words::Quantity;
 
@@ -27,7 +27,7 @@ const LONGEST_NUMBER: usize = 115;
 const LONGEST_DURATION: usize = 116;
 
 // Writes a number in words from start on.
-pub fn write_number(buffer: &mut [u8], start: usize, n: u32) -> WriteText
+pub fn write_number(buffer: &mut [u8], start: usize, n: u32) -> Result<usize, NoRoom>
     ensures { (text_answer result ≡ write_text buffer.old start (words n)) × (buffer.new ≡ after_text buffer.old start (words n)) }
 {
     let mut own = [0u8; LONGEST_NUMBER];
@@ -36,7 +36,7 @@ pub fn write_number(buffer: &mut [u8], start: usize, n: u32) -> WriteText
 }
 
 // Writes a number of seconds in words from start on: nothing for 0 seconds.
-pub fn write_duration(buffer: &mut [u8], start: usize, seconds: u32) -> WriteText
+pub fn write_duration(buffer: &mut [u8], start: usize, seconds: u32) -> Result<usize, NoRoom>
     ensures { (text_answer result ≡ write_text buffer.old start (duration seconds)) × (buffer.new ≡ after_text buffer.old start (duration seconds)) }
 {
     let mut own = [0u8; LONGEST_DURATION];

@@ -6,8 +6,8 @@ ghost use Rattle.words.specs.Words.{spaced, ones, below_hundred, below_thousand,
 use crate::dictionary::{BILLION, HUNDRED, MILLION, TENS, THOUSAND, put_word};
 
 // A number below 20; nothing where it is 0.
+#[tactic(auto, using(words::proofs::Cases::ones_none, words::proofs::Cases::ones_some, buffer::proofs::Chain::put_none))]
 fn put_ones(dst: &mut [u8], at: usize, n: usize) -> usize
-    requires { n < 20 }
     ensures { Put dst.old at (spaced (ones n)) dst.new result }
 {
     if n == 0 {
@@ -17,8 +17,8 @@ fn put_ones(dst: &mut [u8], at: usize, n: usize) -> usize
 }
 
 // A number below 100; nothing where it is 0.
+#[tactic(auto, using(words::proofs::Cases::hundred_low, words::proofs::Cases::hundred_high, buffer::proofs::Chain::put_then))]
 fn put_below_hundred(dst: &mut [u8], at: usize, n: usize) -> usize
-    requires { n < 100 }
     ensures { Put dst.old at (spaced (below_hundred n)) dst.new result }
 {
     if n < 20 {
@@ -29,8 +29,8 @@ fn put_below_hundred(dst: &mut [u8], at: usize, n: usize) -> usize
 }
 
 // A number below 1,000; nothing where it is 0.
+#[tactic(auto, using(words::proofs::Cases::thousand_low, words::proofs::Cases::thousand_high, buffer::proofs::Chain::put_then))]
 fn put_below_thousand(dst: &mut [u8], at: usize, n: usize) -> usize
-    requires { n < 1_000 }
     ensures { Put dst.old at (spaced (below_thousand n)) dst.new result }
 {
     if n / 100 == 0 {
@@ -42,8 +42,8 @@ fn put_below_thousand(dst: &mut [u8], at: usize, n: usize) -> usize
 }
 
 // A thousands group with its word; nothing where it is empty.
+#[tactic(auto, using(words::proofs::Cases::group_none, words::proofs::Cases::group_some, buffer::proofs::Chain::put_none, buffer::proofs::Chain::put_then))]
 fn put_group(dst: &mut [u8], at: usize, count: usize, unit: usize) -> usize
-    requires { (count < 1_000) × (unit < 40) }
     ensures { Put dst.old at (spaced (group count unit)) dst.new result }
 {
     if count == 0 {
@@ -54,6 +54,7 @@ fn put_group(dst: &mut [u8], at: usize, count: usize, unit: usize) -> usize
 }
 
 // Writes as much of a number in words as fits into dst from `at` on, and gives the next start.
+#[tactic(auto, using(words::proofs::Cases::said_zero, words::proofs::Cases::said_some, buffer::proofs::Chain::put_then))]
 pub fn put_number(dst: &mut [u8], at: usize, n: u32) -> usize
     ensures { Put dst.old at (said n) dst.new result }
 {

@@ -12,9 +12,6 @@ use Rattle.text.specs.Tokens.{on_token, longer, tokens, token_length}
 use Rattle.text.specs.Logic.{by_test}
 use Rattle.text.proofs.Runs.{run_le, run_within}
 
-pub spaces_le : (l : List ℕ) → spaces l ≤ length l
-spaces_le = run_le is_space
-
 pub token_le : (l : List ℕ) → token_length l ≤ length l
 token_le = run_le (λ b. not (is_space b))
 

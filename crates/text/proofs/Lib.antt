@@ -2,4 +2,3 @@ pub mod Runs
 pub mod Laws
 pub mod Parts
 pub mod Rooms
-pub mod Spelling

@@ -3,23 +3,16 @@ use mathlib.Core.Path.{◌≡◌, refl, sym, ap, ◌∙◌}
 use mathlib.Core.Bool.{Bool, true, false, ◌&&◌, false≢true}
 use mathlib.Core.List.{List, [], ◌∷◌, ◌++◌}
 use Prim.Native.Nat.{ℕ, ◌+◌, ◌-◌, ◌≤◌, ◌<◌}
-use native.Mathlib.Nat.{suc_inj}
 use native.Mathlib.Numerals.{add-one}
 use native.Mathlib.Omega.{arith}
 use lib.Dec.{eqb, leb}
-use lib.ListN.{length, get_or, take, drop, length-drop, drop_of_length-le}
-use lib.Seq.{drop-cons, take_all}
+use lib.ListN.{length, get_or, drop, length-drop, drop_of_length-le}
+use lib.Seq.{drop-cons}
 use borrow.Author.Tests.{eq-eqb, ne_eqb, leb-true, leb-false}
-use Rattle.text.specs.Logic.{by_test, and_assoc, eql, eql_true}
+use Rattle.text.specs.Logic.{by_test, and_assoc}
 use Rattle.text.specs.Parts.{part, starts_with}
 
 -- ---- parts
-
-pub drop_part : (t : List ℕ) (k : ℕ) → take (length t - k) (drop k t) ≡ drop k t
-drop_part t k = take_all (length t - k) (drop k t) (simp length-drop (omega arith))
-
-pub drop_past : (t : List ℕ) (k : ℕ) → length t ≤ k → [] ≡ drop k t
-drop_past t k h = sym (drop_of_length-le t h)
 
 -- a part that ends where it starts, or before
 pub part_none : (t : List ℕ) (a e : ℕ) → e ≤ a → [] ≡ part t a e
@@ -44,18 +37,6 @@ module _ (t p : List ℕ) (i : ℕ) where
   pub starts_end : length p ≤ i → starts_with (drop i p) (drop i t) ≡ true
   unfolding starts_with
   starts_end h = rw (drop_of_length-le p h)
-
--- texts of different lengths differ
-pub lengths_differ : (a b : List ℕ) → (length a ≡ length b → ⊥) → false ≡ eql a b
-lengths_differ a b n = by_test (eql a b) (λ e. absurd (n (ap length (eql_true a b e)))) sym
-
--- of two texts of one length each leads the other only if they are equal
-pub starts_equal : (a b : List ℕ) → length a ≡ length b → starts_with b a ≡ eql a b
-unfolding starts_with
-starts_equal [] [] h = refl
-starts_equal [] (y ∷ b) h = absurd (omega arith)
-starts_equal (x ∷ a) [] h = absurd (omega arith)
-starts_equal (x ∷ a) (y ∷ b) h = ap (λ (r : Bool). eqb x y && r) (starts_equal a b (suc_inj h))
 
 -- ---- texts one after the other
 

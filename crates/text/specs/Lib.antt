@@ -6,4 +6,3 @@ pub mod Tokens
 pub mod Logic
 pub mod Parts
 pub mod Search
-pub mod Spelling

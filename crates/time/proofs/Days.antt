@@ -116,14 +116,14 @@ unfolding days_of_months
 same_kind y z zero e = refl
 same_kind y z (suc n) e = rw (e, same_kind y z n e)
 
-module _ {before : List ℕ} {m : ℕ} (p : MonthTable before m) (y : ℕ) (b : Bool) (e : b ≡ is_leap y) where
+module _ {before : List ℕ} {m : ℕ} (p : MonthTable before m) (y : ℕ) (b : Bool) (e : b ≡ (ltb 2 m && is_leap y)) where
   tabled : has_month before 1 m && has_month before 4 m ≡ true
   tabled = below_at 13 (λ (k : ℕ). has_month before 1 k && has_month before 4 k) p.right m p.month_high
 
-  like : (z : ℕ) → is_leap y ≡ is_leap z → has_month before z m ≡ true → get_or before m 0 + bool_byte (ltb 2 m && b) ≡ days_of_months y (m - 1)
+  like : (z : ℕ) → is_leap y ≡ is_leap z → has_month before z m ≡ true → get_or before m 0 + bool_byte b ≡ days_of_months y (m - 1)
   like z k t = rw (e, k, same_kind y z (m - 1) k) (eqb-true _ _ t)
 
   -- the table, with the leap day from March on
-  pub months_table : get_or before m 0 + bool_byte (ltb 2 m && b) ≡ days_of_months y (m - 1)
+  pub months_table : get_or before m 0 + bool_byte b ≡ days_of_months y (m - 1)
   months_table =
       by_test (is_leap y) (λ k. like 4 k (and_right (has_month before 1 m) _ tabled)) (λ k. like 1 k (and_left _ (has_month before 4 m) tabled))

@@ -1,12 +1,13 @@
 -- Laws of the form and of the numbers that a text of the form writes.
 use mathlib.Core.Path.{◌≡◌, refl, ap}
-use mathlib.Core.Bool.{true, false, false≢true}
+use mathlib.Core.Bool.{true, false≢true}
 use mathlib.Core.List.{List, [], ◌∷◌}
-use Prim.Native.Nat.{ℕ, suc, ◌+◌, ◌*◌, ◌≤◌, ◌<◌}
+use Prim.Native.Nat.{ℕ, suc, ◌+◌, ◌*◌, ◌<◌}
 use native.Mathlib.Numerals.{add-one}
 use native.Mathlib.Omega.{arith}
-use lib.ListN.{length, get_or, drop, drop_of_length-le}
+use lib.ListN.{length, get_or}
 use lib.Seq.{drop-cons}
+use Rattle.std.specs.List.{list_all, zip}
 use Rattle.text.specs.Bytes.{number_from}
 use Rattle.text.specs.Logic.{and_right}
 use Rattle.time.specs.Digits.{digit_value}
@@ -14,20 +15,12 @@ use Rattle.time.specs.Time.{is_form_byte, has_form, digits_at}
 
 -- ---- the form
 
-module _ (f l : List ℕ) (i : ℕ) where
-  pub form_on :
-      i < length f → i < length l → is_form_byte (get_or f i 0) (get_or l i 0) ≡ true
-      → has_form (drop i f) (drop i l) ≡ has_form (drop (i + 1) f) (drop (i + 1) l)
-  unfolding has_form
-  form_on h g e = rw (drop-cons f i 0 h, drop-cons l i 0 g, e, add-one i)
-
-  pub form_stop : i < length f → i < length l → is_form_byte (get_or f i 0) (get_or l i 0) ≡ false → has_form (drop i f) (drop i l) ≡ false
-  unfolding has_form
-  form_stop h g e = rw (drop-cons f i 0 h, drop-cons l i 0 g, e)
-
-  pub form_end : length f ≤ i → length l ≤ i → has_form (drop i f) (drop i l) ≡ true
-  unfolding has_form
-  form_end h g = rw (drop_of_length-le f h, drop_of_length-le l g)
+pub has_form_zip : (f l : List ℕ) → length f ≡ length l → list_all (λ (p : ℕ × ℕ). is_form_byte p.0 p.1) (zip f l) ≡ has_form f l
+unfolding has_form
+has_form_zip [] [] e = refl
+has_form_zip [] (b ∷ l) e = absurd (omega arith)
+has_form_zip (a ∷ f) [] e = absurd (omega arith)
+has_form_zip (a ∷ f) (b ∷ l) e = rw (has_form_zip f l (omega arith))
 
 -- a text that has a form is as long as it
 pub form_length : (f l : List ℕ) → has_form f l ≡ true → length l ≡ length f

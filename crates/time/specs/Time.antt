@@ -1,12 +1,10 @@
 -- CAP times (document 01, "The document", second paragraph, with request [6] of document 02) and the instants they name.
-use Rattle.std.specs.Prelude.{Bool, true, false, cond, not, ◌&&◌, ◌||◌, List, [], ◌∷◌, ℕ, ◌+◌, ◌*◌, eqb, leb, ℤ, pos, neg_ℤ, ◌-ℤ◌, length, take, drop, get_or}
+use Rattle.std.specs.Prelude.{Bool, true, false, cond, not, ◌&&◌, ◌||◌, List, [], ◌∷◌, Option, Some, None, ℕ, ◌+◌, ◌*◌, eqb, leb, ℤ, pos, neg_ℤ, ◌-ℤ◌, length, take, drop, get_or}
 use Prim.Native.Char.{code}
 use Rattle.text.specs.Answers.{Answer, gives, refuses}
 use Rattle.text.specs.Ascii.{ascii}
 use Rattle.text.specs.Bytes.{is_digit, drop_space, all_space, number}
 use Rattle.time.specs.declared.Stamp.{Stamp}
-use Rattle.time.specs.declared.Time.{Time}
-use Rattle.time.specs.declared.Time.TheVariants.{Instant, Fault}
 use Rattle.time.specs.Calendar.{month_days, days_before, days_before_year}
 
 -- ---- "the form dddd-dd-ddTdd:dd:dd, + or -, dd:dd": d stands for a digit, s for the sign
@@ -103,6 +101,6 @@ stamp_time l = cond (has_form form l && is_stamp (stamp_of l)) (gives (instant_o
 unfoldable pub time_of : List ℕ → Answer ℤ
 time_of l = cond (all_space (drop (length form) (drop_space l))) (stamp_time (take (length form) (drop_space l))) (refuses 18 0)
 
-abbrev pub time_answer : Time → Answer ℤ
-time_answer (Instant z) = gives z
-time_answer Fault = refuses 18 0
+abbrev pub time_answer : Option ℤ → Answer ℤ
+time_answer (Some z) = gives z
+time_answer None = refuses 18 0

@@ -11,23 +11,19 @@ const BEFORE: [u64; 13] = [0, 0, 31, 59, 90, 120, 151, 181, 212, 243, 273, 304, 
 pub fn is_leap(y: u64) -> bool
     ensures { result ≡ is_leap y }
 {
-    ((y % 4 == 0) & (y % 100 != 0)) | (y % 400 == 0)
+    y % 4 == 0 && y % 100 != 0 || y % 400 == 0
 }
 
 // How many days a month has.
 pub fn month_days(y: u64, m: u64) -> u64
     ensures { result ≡ month_days y m }
 {
-    if m == 2 {
-        if is_leap(y) {
-            return 29;
-        }
-        return 28;
+    match m {
+        2 if is_leap(y) => 29,
+        2 => 28,
+        4 | 6 | 9 | 11 => 30,
+        _ => 31,
     }
-    if (m == 4) | (m == 6) | (m == 9) | (m == 11) {
-        return 30;
-    }
-    31
 }
 
 // The days from 0001-01-01 to the first day of a year.
@@ -44,7 +40,7 @@ fn days_before_month(before: &[u64; 13], y: u64, m: u64) -> u64
     requires { MonthTable before.now m }
     ensures { result ≡ days_before_month y m }
 {
-    before[m as usize] + ((2 < m) & is_leap(y)) as u64
+    before[m as usize] + u64::from(2 < m && is_leap(y))
 }
 
 // The days from 0001-01-01 to a date within the limits.

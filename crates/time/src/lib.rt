@@ -7,8 +7,9 @@ mod form;
 mod instant;
 mod limits;
 
-ghost use Rattle.std.specs.Prelude.{◌≡◌, length};
-ghost use Rattle.time.specs.Time.{form, stamp_time, time_of, time_answer};
+ghost use Rattle.std.specs.Prelude.{◌≡◌};
+ghost use Rattle.time.specs.Limits.{Stamped};
+ghost use Rattle.time.specs.Time.{stamp_time, time_of, time_answer};
 
 // How many bytes the form of a time has.
 const FORM_LENGTH: usize = 25;
@@ -27,42 +28,33 @@ pub struct Stamp {
     pub offset_minute: u64,
 }
 
-// The instant that a text names, or that the text is no time.
-#[derive(Drop)]
-pub enum Time {
-    Instant(i64),
-    Fault,
+// A stamp that names a time that exists; so its numbers are small.
+#[derive(Clone, Copy)]
+pub struct Existing {
+    pub stamp: Stamp,
+    ghost within: { Stamped stamp },
 }
 
 // The instant that a text of the form's length names.
-fn stamp_time(text: &[u8]) -> Time
-    requires { length text.now ≡ length form }
+#[tactic(auto, unfolding(crate::specs::Time::stamp_time))]
+fn stamp_time(text: &[u8; FORM_LENGTH]) -> Option<i64>
     ensures { time_answer result ≡ stamp_time text.now }
 {
-    if !form::has_time_form(text) {
-        return Time::Fault;
+    if !form::has_form(text) {
+        return None;
     }
-    let t = form::stamp_of(text);
-    if limits::is_stamp(t) {
-        Time::Instant(instant::instant_of(t))
-    } else {
-        Time::Fault
-    }
+    let time = limits::existing(form::stamp_of(text))?;
+    Some(time.instant())
 }
 
 // The instant that a text names: white space, the form's bytes, white space.
-pub fn read_time(text: &[u8]) -> Time
+pub fn read_time(text: &[u8]) -> Option<i64>
     ensures { time_answer result ≡ time_of text.now }
 {
     let start = text::skip_space(text, 0);
-    if text.len() - start < FORM_LENGTH {
-        return Time::Fault;
+    let (time, rest) = text::skip(text, start).split_first_chunk::<FORM_LENGTH>()?;
+    if text::skip_space(rest, 0) != rest.len() {
+        return None;
     }
-    let end = start + FORM_LENGTH;
-    let rest = text::skip_space(text, end);
-    if rest == text.len() {
-        stamp_time(&text[start..end])
-    } else {
-        Time::Fault
-    }
+    stamp_time(time)
 }

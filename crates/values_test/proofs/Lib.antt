@@ -1,1 +1,2 @@
-mod Instants
+mod Words
+pub mod Instants

@@ -4,15 +4,15 @@
 
 #![tactic(auto)]
 
-ghost use Rattle.std.specs.Prelude.{◌≤◌, nat_abs, length};
+ghost use Rattle.std.specs.Prelude.{◌≤◌, length, IfOk};
 
-use buffer::WriteText;
-use coordinates::{Degrees, Inclusion, Pair, Place, Radius};
-use input::Ending;
-use time::Time;
+use buffer::NoRoom;
+use coordinates::Place;
+use std::fmt::Display;
+use std::io;
 
-// The standard output.
-const STDOUT_FILENO: i32 = 1;
+// How long an input may be.
+const MOST: usize = 65536;
 
 // Longitudes around the date line, half way round from it, and at the ends of i32.
 const LONGITUDES: [i32; 16] = [
@@ -34,210 +34,122 @@ const LONGITUDES: [i32; 16] = [
     2_147_483_647,
 ];
 
-fn print(text: &[u8]) {
-    io::write_all(STDOUT_FILENO, text);
-}
-
-fn print_sign(negative: bool) {
-    if negative {
-        print(b"-");
-    }
-}
-
-fn magnitude(n: i64) -> u64
-    requires { nat_abs n ≤ 9_223_372_036_854_775_807 }
-{
-    if n < 0 {
-        return (0 - n) as u64;
-    }
-    n as u64
-}
-
-fn print_time(text: &[u8]) {
-    let t = time::read_time(text);
-    match t {
-        Time::Instant(z) => {
-            print_sign(z < 0);
-            io::print_decimal(STDOUT_FILENO, magnitude(z));
-        }
-        Time::Fault => print(b"fault"),
-    }
-}
-
-fn print_degrees(d: Degrees) {
-    match d {
-        Degrees::Units(z) => {
-            print_sign(z < 0);
-            io::print_decimal(STDOUT_FILENO, coordinates::distance(z, 0));
-        }
-        Degrees::Fault => print(b"fault"),
-    }
-}
-
-fn print_radius(text: &[u8]) {
-    let r = coordinates::read_radius(text);
-    match r {
-        Radius::Metres(m) => {
-            io::print_decimal(STDOUT_FILENO, m as u64);
-        }
-        Radius::Fault => print(b"fault"),
+// What a text writes, or that it is at fault.
+fn print_value<T: Display + Drop>(rt: &impl Print, value: Option<T>) -> io::Result<()> {
+    match value {
+        Some(value) => rt.print(value),
+        None => rt.print("fault"),
     }
 }
 
 // The words of a number, which stand after a space: its value, and its words written anew.
-fn print_number(text: &[u8]) {
-    let quantity = spoken::read_number(text, 0);
-    io::print_decimal(STDOUT_FILENO, quantity.value as u64);
-    print(b" ");
+fn print_number(rt: &impl Print, text: &[u8]) -> io::Result<()> {
+    let value = spoken::read_number(text, 0).value;
     let mut words = [0u8; 256];
-    let end = spoken::write_number(&mut words, 0, quantity.value);
-    print_written(&words, end);
+    let end = spoken::write_number(&mut words, 0, value);
+    print_words(rt, value, &words, end)
 }
 
-fn print_duration(text: &[u8]) {
-    let quantity = spoken::read_duration(text, 0);
-    io::print_decimal(STDOUT_FILENO, quantity.value as u64);
-    print(b" ");
+fn print_duration(rt: &impl Print, text: &[u8]) -> io::Result<()> {
+    let value = spoken::read_duration(text, 0).value;
     let mut words = [0u8; 512];
-    let end = spoken::write_duration(&mut words, 0, quantity.value);
-    print_written(&words, end);
+    let end = spoken::write_duration(&mut words, 0, value);
+    print_words(rt, value, &words, end)
 }
 
-fn print_written(words: &[u8], end: WriteText) {
+fn print_words(
+    rt: &impl Print,
+    value: u32,
+    words: &[u8],
+    end: Result<usize, NoRoom>,
+) -> io::Result<()>
+    requires { IfOk end (λ n. n ≤ length words.now) }
+{
+    print!(rt; "{value} ")?;
     match end {
-        WriteText::End(n) => {
-            if n <= words.len() {
-                print(&words[..n]);
-            }
-        }
-        WriteText::NoRoom => print(b"no room"),
+        Ok(end) => rt.write_all(&words[..end]),
+        Err(NoRoom) => rt.print("no room"),
     }
 }
 
-fn print_inclusion(answer: Inclusion) {
-    match answer {
-        Inclusion::Inside => print(b"inside"),
-        Inclusion::Outside => print(b"outside"),
-        Inclusion::Fault => print(b"fault"),
-    }
+fn print_inclusion(rt: &impl Print, holds: Option<bool>) -> io::Result<()> {
+    rt.print(match holds {
+        Some(true) => "inside",
+        Some(false) => "outside",
+        None => "fault",
+    })
 }
 
 // A place and a shape, with ';' between: whether the shape is one, and whether it holds the place.
-fn print_shape(kind: u8, case: &[u8]) {
-    let comma = find(case, 0, b';');
-    let p = coordinates::read_pair(&case[..comma]);
-    let place = place_of(p);
-    print_inclusion_in(kind, after(case, comma), place);
-}
-
-// What stands after an offset of a text.
-fn after(s: &[u8], at: usize) -> &[u8] {
-    if at < s.len() {
-        return &s[at + 1..];
-    }
-    &s[s.len()..]
-}
-
-fn print_inclusion_in(kind: u8, shape: &[u8], place: Place) {
+fn print_shape(rt: &impl Print, kind: u8, case: &[u8]) -> io::Result<()> {
+    let (pair, shape) = split_at_byte(case, b';');
+    let place = coordinates::read_pair(pair).unwrap_or(Place { lat: 0, lon: 0 });
     if kind == b'C' {
-        print_inclusion(circle::circle_holds(shape, place));
-        return;
+        return print_inclusion(rt, circle::circle_holds(shape, place));
     }
     if polygon::is_polygon(shape) {
-        print(b"polygon ");
+        rt.print("polygon ")?;
     }
-    print_inclusion(polygon::polygon_holds(shape, place));
+    print_inclusion(rt, polygon::polygon_holds(shape, place))
 }
 
-fn place_of(p: Pair) -> Place {
-    match p {
-        Pair::At(place) => place,
-        Pair::Fault => Place { lat: 0, lon: 0 },
+// What stands in a text before the first of a byte, and what stands after it: nothing where it isn't there.
+fn split_at_byte(text: &[u8], byte: u8) -> (&[u8], &[u8])
+    ensures { length result.1.now ≤ length text.now }
+{
+    match text.iter().position(|b| *b == byte) {
+        Some(at) => (&text[..at], &text[at + 1..]),
+        None => (text, &[]),
     }
 }
 
-fn print_case(kind: u8, text: &[u8]) {
+fn print_case(rt: &impl Print, kind: u8, text: &[u8]) -> io::Result<()> {
     match kind {
-        b'T' => print_time(text),
-        b'N' => print_number(text),
-        b'D' => print_duration(text),
-        b'A' => print_degrees(coordinates::read_latitude(text)),
-        b'O' => print_degrees(coordinates::read_longitude(text)),
-        b'R' => print_radius(text),
-        _ => print_shape(kind, text),
+        b'T' => print_value(rt, time::read_time(text))?,
+        b'N' => print_number(rt, text)?,
+        b'D' => print_duration(rt, text)?,
+        b'A' => print_value(rt, coordinates::read_latitude(text))?,
+        b'O' => print_value(rt, coordinates::read_longitude(text))?,
+        b'R' => print_value(rt, coordinates::read_radius(text))?,
+        _ => print_shape(rt, kind, text)?,
     }
-    print(b"\n");
+    println!(rt)
 }
 
-// The first offset from `from` on that holds the byte, or the end.
-fn find(s: &[u8], from: usize, byte: u8) -> usize
-    requires { from ≤ length s.now }
-    ensures { (from ≤ result) × (result ≤ length s.now) }
-{
-    let mut i = from;
-    while i < s.len() {
-        if s[i] == byte {
-            return i;
-        }
-        i += 1;
+fn print_cases(rt: &impl Print, input: &[u8]) -> io::Result<()> {
+    let mut rest = input;
+    while let Some((kind, cases)) = rest.split_first() {
+        let (text, after) = split_at_byte(cases, b'#');
+        print_case(rt, *kind, text)?;
+        rest = after.get(1..).unwrap_or(&[]); // behind the line feed
     }
-    i
+    Ok(())
 }
 
-// The offset after the '#' at an offset and the line feed after it.
-fn next_start(input: &[u8], end: usize) -> usize
-    requires { end ≤ length input.now }
-    ensures { end ≤ result }
-{
-    if input.len() - end < 2 {
-        return input.len();
+fn print_cosines(rt: &impl Print) -> io::Result<()> {
+    for i in 0..901 {
+        rt.println(circle::cosine(i))?;
     }
-    end + 2
-}
-
-fn print_cases(input: &[u8]) {
-    let mut start = 0;
-    while start < input.len() {
-        let text = start + 1;
-        let end = find(input, text, b'#');
-        print_case(input[start], &input[text..end]);
-        start = next_start(input, end);
-    }
-}
-
-fn print_cosines() {
-    let mut i = 0;
-    while i < 901 {
-        io::print_decimal(STDOUT_FILENO, circle::cosine(i) as u64);
-        print(b"\n");
-        i += 1;
-    }
+    Ok(())
 }
 
 // How far apart any two of the longitudes are, for circles.
-fn print_longitudes() {
-    let mut i = 0;
-    while i < 256 {
-        io::print_decimal(
-            STDOUT_FILENO,
-            circle::longitude_apart(LONGITUDES[i / 16], LONGITUDES[i % 16]),
-        );
-        print(b"\n");
-        i += 1;
+fn print_longitudes(rt: &impl Print) -> io::Result<()> {
+    for a in LONGITUDES {
+        for b in LONGITUDES {
+            rt.println(circle::longitude_apart(a, b))?;
+        }
     }
+    Ok(())
 }
 
-fn main(rt: HostRuntime) {
-    print_cosines();
-    print_longitudes();
-    let mut cases = io::large_buffer();
-    let mut reader = rt.reader();
-    let read = input::read_input(&mut reader, &mut cases);
-    let n = read.length;
-    let ending = read.ending;
-    match ending {
-        Ending::Whole => print_cases(&cases[..n]),
-        Ending::More => print(b"input over 65536 bytes\n"),
-        Ending::Failed => print(b"input can't be read\n"),
+fn main(rt: HostRuntime) -> io::Result<()> {
+    print_cosines(&rt)?;
+    print_longitudes(&rt)?;
+    let mut buffer = [0u8; MOST + 1];
+    match input::read_input(&mut rt.reader(), &mut buffer) {
+        Ok(cases) if cases.len() > MOST => println!(rt; "input over {MOST} bytes"),
+        Ok(cases) => print_cases(&rt, cases),
+        Err(_) => println!(rt; "input can't be read"),
     }
 }

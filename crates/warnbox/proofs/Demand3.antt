@@ -4,6 +4,7 @@ use mathlib.Core.Bool.{true, false≢true}
 use mathlib.Core.List.{List, [], map}
 use Prim.Native.Nat.{ℕ}
 use lib.ListN.{take}
+use Rattle.std.specs.Prelude.{Option, None, Some}
 use Rattle.text.specs.Answers.{Answer, gives, refuses, answer_and_then}
 use Rattle.text.specs.Logic.{cond_cases, clash}
 use Rattle.buffer.specs.Writing.{has_room, write_text}
@@ -11,8 +12,7 @@ use Rattle.codes.specs.declared.MessageType.{MessageType}
 use Rattle.codes.specs.declared.Status.{Status}
 use Rattle.codes.specs.declared.Scope.{Scope}
 use Rattle.codes.specs.Values.{message_number, status_number, scope_number}
-use Rattle.sheet.specs.declared.Parts.{Parts}
-use Rattle.sheet.specs.declared.Parts.TheVariants.{NoPart, OnePart}
+use Rattle.sheet.specs.declared.Part.{Part}
 use Rattle.sheet.specs.declared.Span.{Span}
 use Rattle.sheet.specs.declared.Found.{Found}
 use Rattle.sheet.specs.declared.Found.TheVariants as found
@@ -83,12 +83,12 @@ said_of (warn w) = record { facts = warn_numbers w; sender = []; name = [] }
 -- by cases on the part
 module _ (t : List ℕ) (x : MessageType) (y : Status) (z : Scope) (sender name : Span) where
   parts_said :
-      (p : Parts)
+      (p : Option Part)
       → said_in t (with_parts (message_number x) (status_number y) (scope_number z) sender name p)
       ≡ said_of (cap (record { message = x; status = y; scope = z; parts = p }) (span_in t sender) (span_in t name))
   unfolding numbers_of_none numbers_of_part said_of
-  parts_said NoPart = refl
-  parts_said (OnePart p) = refl
+  parts_said None = refl
+  parts_said (Some p) = refl
 
 numbers_said : (t : List ℕ) (x : Found) → said_in t (numbers_of x) ≡ said_of (sheet_in t x)
 unfolding numbers_of warn_numbers sheet_in said_of

@@ -1,6 +1,6 @@
 // The warning box as C calls it, through the crate warnbox_c: include/warnbox.h documents each function for its callers.
 // A function that can refuse gives the number of the refusal, 0 for none. Where there is something to tell, or a refusal has an offset, it writes a value:
-// the refusal's offset, or else what the function tells.
+// the refusal's offset, or else what the function tells. Kept as numbers and lent places: the C interface.
 
 #![tactic(auto)]
 
@@ -11,9 +11,8 @@ mod reasons; // reasons.rt: why a place is inside a part of a document or outsid
 mod replies; // replies.rt: answers as numbers
 pub mod running; // running.rt: the running events of the event table
 pub mod sentences; // sentences.rt: writing a sheet, and reading a text back
-mod sheets; // sheets.rt: sheets that are drawn from documents and packets
+mod sheets; // sheets.rt: sheets that are drawn from documents and packets, or handed in
 pub mod tables; // tables.rt: the event table as the caller lends it
-mod writing; // writing.rt: the sentence of a sheet, the answer as numbers
 
 // What a function gives back: the number of a refusal, 0 for none, and the value.
 #[derive(Clone, Copy)]

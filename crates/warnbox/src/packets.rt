@@ -3,17 +3,19 @@ ghost use Rattle.std.specs.Prelude.{◌≡◌, []};
 ghost use mir.Val.{bool_byte};
 ghost use Rattle.text.specs.Answers.{giving, answer_number};
 ghost use Rattle.sheet.specs.declared.Found.TheVariants.{Warn};
-ghost use Rattle.packet.specs.Packet.{packet_answer, packet_of, packet_sheet, packet_place};
+ghost use Rattle.packet.specs.Packet.{packet_of, packet_sheet, packet_place};
 ghost use Rattle.numbers.specs.Numbers.{numbers_of};
 ghost use Rattle.warnbox.specs.Replies.{reply, given_or};
 ghost use Rattle.warnbox.specs.Packets.{parts_of};
 ghost use Rattle.warnbox.specs.Sentences.{sentence_of, after_sentence};
+ghost use Rattle.warnbox.specs.Sheets.{drawn_answer};
 
-use crate::replies::{drawn_reply, packet_number, packet_place_reply};
-use crate::sheets::{from_packet, numbers_left, write_drawn};
+use crate::Reply;
+use crate::replies::{Refused, tell};
+use crate::sheets::{put_numbers, write_drawn};
 use coordinates::Place;
-use packet::{Fields, Packet};
-use sheet::Span;
+use packet::Fields;
+use sheet::{Found, Span};
 
 // The fields of a packet, and where its TLV block, the bytes that are signed and the signature stand in it. C lends it, so there is no `bool`
 // whose byte might be neither 0 nor 1, and no hole in its layout: a flag is 1 or 0.
@@ -47,6 +49,7 @@ pub struct PacketParts {
 }
 
 // The parts of a packet whose fields were read.
+#[tactic(auto, unfolding(crate::specs::Packets::parts_of))]
 fn parts_of(packet: &[u8], f: Fields) -> PacketParts
     ensures { result ≡ parts_of packet.now f }
 {
@@ -78,32 +81,18 @@ fn parts_of(packet: &[u8], f: Fields) -> PacketParts
     }
 }
 
-// The parts that a packet leaves after it was read: its own, or what was there.
-fn parts_left(packet: &[u8], read: Packet, before: PacketParts) -> PacketParts
-    ensures { result ≡ given_or before (giving (parts_of packet.now) (packet_answer read)) }
+// The sheet of a packet.
+fn sheet_of(packet: &[u8]) -> Result<Found, Refused>
+    ensures { drawn_answer result ≡ giving Warn (packet_sheet packet.now) }
 {
-    match read {
-        Packet::Alert(fields) => parts_of(packet, fields),
-        Packet::Refused(fault) => before,
-    }
+    Ok(Found::Warn(packet::packet_sheet(packet)?))
 }
 
-// What reading a packet gives back: the number of a refusal, 0 for none, and the parts that are left.
-#[derive(Clone, Copy)]
-struct PacketRead {
-    number: u8,
-    parts: PacketParts,
-}
-
-fn read_parts(packet: &[u8], before: PacketParts) -> PacketRead
-    ensures { (result.number ≡ answer_number (packet_of packet.now))
-        × (result.parts ≡ given_or before (giving (parts_of packet.now) (packet_of packet.now))) }
+// Whether a place is inside a packet's circle: 1, else 0.
+fn side_of(packet: &[u8], place: Place) -> Result<usize, Refused>
+    ensures { drawn_answer result ≡ giving bool_byte (packet_place packet.now place) }
 {
-    let read = packet::read_packet(packet);
-    PacketRead {
-        number: packet_number(read),
-        parts: parts_left(packet, read, before),
-    }
+    Ok(packet::packet_place(packet, place)? as usize)
 }
 
 // Reads a packet: its fields, and where its parts stand. A refused one leaves `parts` as it was.
@@ -111,9 +100,13 @@ pub fn warnbox_read_packet(packet: &[u8], parts: &mut PacketParts) -> u8
     ensures { (result ≡ answer_number (packet_of packet.now))
         × (parts.new ≡ given_or parts.old (giving (parts_of packet.now) (packet_of packet.now))) }
 {
-    let read = read_parts(packet, *parts);
-    *parts = read.parts;
-    read.number
+    match packet::read_packet(packet) {
+        Ok(fields) => {
+            *parts = parts_of(packet, fields);
+            0
+        }
+        Err(fault) => u8::from(fault),
+    }
 }
 
 // Writes the sentence of a packet; the value is the sentence's end.
@@ -127,10 +120,7 @@ pub fn warnbox_packet_sentence(
         × (value.new ≡ (reply (sentence_of buffer.old start [] (giving Warn (packet_sheet packet.now)))).value)
         × (buffer.new ≡ after_sentence buffer.old start [] (giving Warn (packet_sheet packet.now))) }
 {
-    let drawn = from_packet(packet::packet_sheet(packet));
-    let reply = write_drawn(buffer, start, packet, drawn);
-    *value = reply.value;
-    reply.number
+    tell(write_drawn(buffer, start, &[], sheet_of(packet)), value) // a WARN sheet has no sender and no name
 }
 
 // Draws the sheet of a packet, as numbers. A refused packet leaves `sheet` as it was.
@@ -138,9 +128,7 @@ pub fn warnbox_packet_sheet(packet: &[u8], sheet: &mut [u64; 15]) -> u8
     ensures { (result ≡ answer_number (packet_sheet packet.now))
         × (sheet.new ≡ given_or sheet.old (giving numbers_of (giving Warn (packet_sheet packet.now)))) }
 {
-    let drawn = from_packet(packet::packet_sheet(packet));
-    *sheet = numbers_left(drawn, *sheet);
-    drawn_reply(drawn).number
+    Reply::from(put_numbers(sheet, sheet_of(packet))).number
 }
 
 // Whether a place is inside a packet's circle; the value is 0 for outside, 1 for inside.
@@ -148,7 +136,5 @@ pub fn warnbox_packet_place(packet: &[u8], lat: i32, lon: i32, value: &mut usize
     ensures { (result ≡ (reply (giving bool_byte (packet_place packet.now (record { lat = lat; lon = lon })))).number)
         × (value.new ≡ (reply (giving bool_byte (packet_place packet.now (record { lat = lat; lon = lon })))).value) }
 {
-    let reply = packet_place_reply(packet::packet_place(packet, Place { lat, lon }));
-    *value = reply.value;
-    reply.number
+    tell(side_of(packet, Place { lat, lon }), value)
 }

@@ -1,128 +1,151 @@
 // Answers as numbers: what the functions for C give back.
-ghost use Rattle.std.specs.Prelude.{◌≡◌};
-ghost use mir.Val.{bool_byte};
-ghost use Rattle.text.specs.Answers.{gives, refuses, giving, answer_number};
+ghost use Rattle.std.specs.Prelude.{◌≡◌, Err};
 ghost use Rattle.refusals.specs.Names.{name_answer};
 ghost use Rattle.sheet.specs.Answers.{write_answer, read_answer};
 ghost use Rattle.packet.specs.Packet as packet;
 ghost use Rattle.events.specs.Running.{list_answer};
 ghost use Rattle.document.specs.Documents.{check_answer};
-ghost use Rattle.parts.specs.Places as parts;
-ghost use Rattle.warnbox.specs.Replies.{reply, side_number, count_of};
-ghost use Rattle.warnbox.specs.Sheets.{drawn_answer, no_more};
+ghost use Rattle.parts.specs.Places as places;
+ghost use Rattle.parts.specs.Sheets as sheets;
+ghost use Rattle.warnbox.specs.Replies.{reply};
+ghost use Rattle.warnbox.specs.Sheets.{drawn_answer};
 
 use crate::Reply;
-use crate::sheets::Drawn;
-use document::Check;
-use events::ListRunning;
-use packet::{Packet, PacketPlace};
-use parts::CapPlace;
-use refusals::WriteName;
-use sheet::{ReadBack, WriteSheet};
+use packet::{Fault, PlaceFault};
+use parts::{PlaceError, SheetError};
+use refusals::NameError;
+use sheet::{ReadError, WriteError};
 
-pub fn given(value: usize) -> Reply
-    ensures { result ≡ reply (gives value) }
-{
-    Reply { number: 0, value }
+// A refusal by its number and its offset. What another crate refuses becomes one by `?`.
+#[derive(Clone, Copy, Debug, PartialEq, Eq)]
+pub struct Refused {
+    pub number: u8,
+    pub offset: usize,
 }
 
-pub fn refused(number: u8, offset: usize) -> Reply
-    ensures { result ≡ reply (refuses number offset) }
-{
-    Reply {
-        number,
-        value: offset,
+impl Refused {
+    // A refusal whose offset is 0.
+    pub fn whole(number: u8) -> Refused
+        ensures { result ≡ record { number = number; offset = 0 } }
+    {
+        Refused { number, offset: 0 }
     }
 }
 
-pub fn check_reply(check: Check) -> Reply
-    ensures { result ≡ reply (check_answer check) }
-{
-    match check {
-        Check::Accepted(parts) => given(parts),
-        Check::Refused(number, offset) => refused(number, offset),
+impl From<document::Refusal> for Refused {
+    ghost from_gives = { λ e refused. drawn_answer (Err refused) ≡ check_answer (Err e) };
+
+    fn from(refusal: document::Refusal) -> Refused {
+        Refused {
+            number: u8::from(refusal.fault),
+            offset: refusal.offset,
+        }
     }
 }
 
-pub fn write_reply(answer: WriteSheet) -> Reply
-    ensures { result ≡ reply (write_answer answer) }
-{
-    match answer {
-        WriteSheet::End(end) => given(end),
-        WriteSheet::OutOfRange => refused(23, 0),
-        WriteSheet::NoRoom => refused(13, 0),
+impl From<SheetError> for Refused {
+    ghost from_gives = { λ e refused. drawn_answer (Err refused) ≡ sheets.sheet_answer (Err e) };
+
+    fn from(error: SheetError) -> Refused {
+        match error {
+            SheetError::NotThere => Refused::whole(21),
+            SheetError::OutOfRange => Refused::whole(7),
+            SheetError::Document(refusal) => Refused::from(refusal),
+        }
     }
 }
 
-pub fn cap_place_reply(answer: CapPlace) -> Reply
-    ensures { result ≡ reply (giving side_number (parts.place_answer answer)) }
-{
-    match answer {
-        CapPlace::Outside => given(0),
-        CapPlace::Inside => given(1),
-        CapPlace::NoShape => given(2),
-        CapPlace::NotThere => refused(21, 0),
-        CapPlace::OutOfRange => refused(6, 0),
-        CapPlace::Refused(number, offset) => refused(number, offset),
+impl From<PlaceError> for Refused {
+    ghost from_gives = { λ e refused. drawn_answer (Err refused) ≡ places.place_answer (Err e) };
+
+    fn from(error: PlaceError) -> Refused {
+        match error {
+            PlaceError::NotThere => Refused::whole(21),
+            PlaceError::OutOfRange => Refused::whole(6),
+            PlaceError::Document(refusal) => Refused::from(refusal),
+        }
     }
 }
 
-// Every refusal of a packet has offset 0, so its number is all there is to tell.
-pub fn packet_number(read: Packet) -> u8
-    ensures { result ≡ answer_number (packet.packet_answer read) }
-{
-    match read {
-        Packet::Alert(fields) => 0,
-        Packet::Refused(fault) => packet::fault_number(fault),
+impl From<Fault> for Refused {
+    ghost from_gives = { λ e refused. drawn_answer (Err refused) ≡ packet.sheet_answer (Err e) };
+
+    fn from(fault: Fault) -> Refused {
+        Refused::whole(u8::from(fault))
     }
 }
 
-pub fn packet_place_reply(answer: PacketPlace) -> Reply
-    ensures { result ≡ reply (giving bool_byte (packet.place_answer answer)) }
-{
-    match answer {
-        PacketPlace::Outside => given(0),
-        PacketPlace::Inside => given(1),
-        PacketPlace::OutOfRange => refused(6, 0),
-        PacketPlace::Refused(fault) => refused(packet::fault_number(fault), 0),
+impl From<PlaceFault> for Refused {
+    ghost from_gives = { λ e refused. drawn_answer (Err refused) ≡ packet.place_answer (Err e) };
+
+    fn from(fault: PlaceFault) -> Refused {
+        match fault {
+            PlaceFault::OutOfRange => Refused::whole(6),
+            PlaceFault::Packet(fault) => Refused::from(fault),
+        }
     }
 }
 
-pub fn drawn_reply(drawn: Drawn) -> Reply
-    ensures { result ≡ reply (giving no_more (drawn_answer drawn)) }
-{
-    match drawn {
-        Drawn::Sheet(found) => given(0),
-        Drawn::Refused(number, offset) => refused(number, offset),
+impl From<WriteError> for Refused {
+    ghost from_gives = { λ e refused. drawn_answer (Err refused) ≡ write_answer (Err e) };
+
+    fn from(error: WriteError) -> Refused {
+        match error {
+            WriteError::OutOfRange => Refused::whole(23),
+            WriteError::NoRoom => Refused::whole(13),
+        }
     }
 }
 
-pub fn read_reply(answer: ReadBack) -> Reply
-    ensures { result ≡ reply (giving count_of (read_answer answer)) }
-{
-    match answer {
-        ReadBack::Count(n) => given(n),
-        ReadBack::Sheet(n, found) => given(n),
-        ReadBack::NotReadBack(offset) => refused(23, offset),
-        ReadBack::NotThere => refused(21, 0),
+impl From<ReadError> for Refused {
+    ghost from_gives = { λ e refused. drawn_answer (Err refused) ≡ read_answer (Err e) };
+
+    fn from(error: ReadError) -> Refused {
+        match error {
+            ReadError::NotReadBack(offset) => Refused { number: 23, offset },
+            ReadError::NotThere => Refused::whole(21),
+        }
     }
 }
 
-pub fn name_reply(answer: WriteName) -> Reply
-    ensures { result ≡ reply (name_answer answer) }
-{
-    match answer {
-        WriteName::End(end) => given(end),
-        WriteName::NotThere => refused(21, 0),
-        WriteName::NoRoom => refused(13, 0),
+impl From<NameError> for Refused {
+    ghost from_gives = { λ e refused. drawn_answer (Err refused) ≡ name_answer (Err e) };
+
+    fn from(error: NameError) -> Refused {
+        match error {
+            NameError::NotThere => Refused::whole(21),
+            NameError::NoRoom => Refused::whole(13),
+        }
     }
 }
 
-pub fn list_reply(answer: ListRunning) -> Reply
-    ensures { result ≡ reply (list_answer answer) }
-{
-    match answer {
-        ListRunning::Count(count) => given(count),
-        ListRunning::NoRoom => refused(24, 0),
+impl From<events::NoRoom> for Refused {
+    ghost from_gives = { λ e refused. drawn_answer (Err refused) ≡ list_answer (Err e) };
+
+    fn from(_error: events::NoRoom) -> Refused {
+        Refused::whole(24)
     }
+}
+
+impl From<Result<usize, Refused>> for Reply {
+    ghost from_gives = { λ answer given. given ≡ reply (drawn_answer answer) };
+
+    fn from(answer: Result<usize, Refused>) -> Reply {
+        match answer {
+            Ok(value) => Reply { number: 0, value },
+            Err(refused) => Reply {
+                number: refused.number,
+                value: refused.offset,
+            },
+        }
+    }
+}
+
+// Tells C an answer: the number is the result, the value goes where C wants it.
+pub fn tell(answer: Result<usize, Refused>, value: &mut usize) -> u8
+    ensures { (result ≡ (reply (drawn_answer answer)).number) × (value.new ≡ (reply (drawn_answer answer)).value) }
+{
+    let reply = Reply::from(answer);
+    *value = reply.value;
+    reply.number
 }

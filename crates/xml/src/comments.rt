@@ -1,36 +1,42 @@
 // Comments.
 ghost use Rattle.std.specs.Prelude.{◌≡◌};
-ghost use Rattle.xml.specs.Comments.{comment_text, comment};
+ghost use Rattle.xml.specs.Comments.{comment_error, comment_text, comment};
 
 use crate::bytes::is_control;
 use crate::faults::faulty;
-use crate::{Comment, Content};
+use crate::{CommentError, ContentError};
 
-// What stands in a comment, whose opening ends at an offset.
-fn read_comment_text(s: &[u8], at: usize) -> Content
-    ensures { result ≡ comment_text s.now at }
-{
-    let mut i = at;
-    while i < s.len() {
-        if text::starts_at(s, i, b"-->") {
-            return Content::Clean(i);
+impl From<ContentError> for CommentError {
+    ghost from_gives = { λ e r. r ≡ comment_error e };
+
+    fn from(e: ContentError) -> CommentError {
+        match e {
+            ContentError::Fault(_) => CommentError::Fault,
+            ContentError::Unended => CommentError::Unended,
         }
-        if is_control(s[i]) | text::starts_at(s, i, b"--") {
-            return faulty(s, i, b"-->");
-        }
-        i += 1;
     }
-    Content::Unended
 }
 
-// The comment whose opening ends at an offset.
-pub fn read_comment(s: &[u8], at: usize) -> Comment
+// Where what stands in a comment ends, whose opening ends at an offset.
+fn read_comment_text(s: &[u8], at: usize) -> Result<usize, ContentError>
+    ensures { result ≡ comment_text s.now at }
+{
+    for i in at..s.len() {
+        if text::starts_at(s, i, b"-->") {
+            return Ok(i);
+        }
+        if is_control(s[i]) | text::starts_at(s, i, b"--") {
+            return Err(faulty(s, i, b"-->"));
+        }
+    }
+    Err(ContentError::Unended)
+}
+
+// The offset after the comment whose opening ends at an offset.
+#[tactic(auto, unfolding(crate::specs::Comments::comment))]
+pub fn read_comment(s: &[u8], at: usize) -> Result<usize, CommentError>
     ensures { result ≡ comment s.now at }
 {
-    let body = read_comment_text(s, at);
-    match body {
-        Content::Clean(e) => Comment::After(e + 3),
-        Content::Fault(p) => Comment::Fault,
-        Content::Unended => Comment::Unended,
-    }
+    let end = read_comment_text(s, at)?;
+    Ok(end + 3)
 }

@@ -9,25 +9,22 @@ pub mod texts; // texts.rt: texts of leaf elements
 mod bytes; // bytes.rt: bytes by their kind
 mod faults; // faults.rt: what has a fault, by whether its end follows
 
-// A comment, after its opening: the offset after it, a fault in it, or no end.
-#[derive(Drop)]
-pub enum Comment {
-    After(usize),
+// Why a text, a comment or a declaration has no end that may be taken: a fault at an offset before it, or no end at all.
+#[derive(Clone, Copy, Debug, PartialEq, Eq)]
+pub enum ContentError {
+    Fault(usize),
+    Unended,
+}
+
+// The same of a comment, whose refusal stands at its opening, wherever the fault is.
+#[derive(Clone, Copy, Debug, PartialEq, Eq)]
+pub enum CommentError {
     Fault,
     Unended,
 }
 
-// What stands in a text, a comment or a declaration: where it ends, the offset of its first fault, or no end.
-#[derive(Drop)]
-pub enum Content {
-    Clean(usize),
-    Fault(usize),
-    Unended,
-}
-
-// What stands before the first construct: the offset after it, or the offset of the refusal.
-#[derive(Drop)]
-pub enum Prolog {
-    After(usize),
-    Fault(usize),
+// What stands before the first construct is refused, at an offset.
+#[derive(Clone, Copy, Debug, PartialEq, Eq)]
+pub struct PrologError {
+    pub offset: usize,
 }

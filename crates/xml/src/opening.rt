@@ -4,7 +4,7 @@ ghost use Rattle.xml.specs.Opening.{after_bom, declares, declaration_text, decla
 
 use crate::bytes::is_control;
 use crate::faults::faulty;
-use crate::{Content, Prolog};
+use crate::{ContentError, PrologError};
 
 // The offset after the byte order mark, if there is one.
 fn after_bom(s: &[u8]) -> usize
@@ -27,48 +27,48 @@ fn declares(s: &[u8], at: usize) -> bool
     text::starts_at(s, at, b"<?xml") & text::is_space(s[at + 5])
 }
 
-// What stands in a declaration, from an offset in it on.
-fn read_declaration_text(s: &[u8], at: usize) -> Content
+// Where a declaration ends, from an offset in it on.
+fn read_declaration_text(s: &[u8], at: usize) -> Result<usize, ContentError>
     ensures { result ≡ declaration_text s.now at }
 {
-    let mut i = at;
-    while i < s.len() {
+    for i in at..s.len() {
         if text::starts_at(s, i, b"?>") {
-            return Content::Clean(i);
+            return Ok(i);
         }
         if is_control(s[i]) {
-            return faulty(s, i, b"?>");
+            return Err(faulty(s, i, b"?>"));
         }
-        i += 1;
     }
-    Content::Unended
+    Err(ContentError::Unended)
 }
 
-// The declaration at an offset.
-fn read_declaration(s: &[u8], at: usize) -> Prolog
+// The offset after the declaration that starts at an offset.
+#[tactic(auto, unfolding(crate::specs::Opening::declaration))]
+fn read_declaration(s: &[u8], at: usize) -> Result<usize, PrologError>
     requires { at ≤ 3 }
     ensures { result ≡ declaration s.now at }
 {
-    let body = read_declaration_text(s, at + 6);
-    match body {
-        Content::Clean(e) => {
-            if e + 2 - at <= 128 {
-                return Prolog::After(e + 2);
+    match read_declaration_text(s, at + 6) {
+        Ok(end) => {
+            if end + 2 - at <= 128 {
+                Ok(end + 2)
+            } else {
+                Err(PrologError { offset: at })
             }
-            Prolog::Fault(at)
         }
-        Content::Fault(p) => Prolog::Fault(at),
-        Content::Unended => Prolog::Fault(s.len()),
+        Err(ContentError::Fault(_)) => Err(PrologError { offset: at }),
+        Err(ContentError::Unended) => Err(PrologError { offset: s.len() }),
     }
 }
 
-// What may stand before the first construct of a document.
-pub fn read_prolog(s: &[u8]) -> Prolog
+// The offset after what may stand before the first construct of a document.
+#[tactic(auto, unfolding(crate::specs::Opening::prolog))]
+pub fn read_prolog(s: &[u8]) -> Result<usize, PrologError>
     ensures { result ≡ prolog s.now }
 {
     let at = after_bom(s);
     if declares(s, at) {
         return read_declaration(s, at);
     }
-    Prolog::After(at)
+    Ok(at)
 }

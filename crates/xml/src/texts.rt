@@ -4,7 +4,7 @@ ghost use Rattle.text.specs.Bytes.{leading};
 ghost use Rattle.xml.specs.Bytes.{is_control, is_plain};
 ghost use Rattle.xml.specs.Texts.{is_reference, is_fault, content};
 
-use crate::Content;
+use crate::ContentError;
 use crate::bytes::{is_control, is_plain};
 use crate::faults::faulty;
 
@@ -115,19 +115,19 @@ fn plain_end(s: &[u8], at: usize) -> usize
     i
 }
 
-// The text that starts at an offset: from one byte that isn't plain to the next.
-pub fn read_text(s: &[u8], at: usize) -> Content
+// Where the text that starts at an offset ends: from one byte that isn't plain to the next.
+pub fn read_text(s: &[u8], at: usize) -> Result<usize, ContentError>
     ensures { result ≡ content s.now at }
 {
     let mut i = plain_end(s, at);
     while i < s.len() {
         if s[i] == b'<' {
-            return Content::Clean(i);
+            return Ok(i);
         }
         if is_fault(s, i) {
-            return faulty(s, i, b"<");
+            return Err(faulty(s, i, b"<"));
         }
         i = plain_end(s, i + 1);
     }
-    Content::Unended
+    Err(ContentError::Unended)
 }

@@ -1,5 +1,5 @@
 pub mod ByteKinds
 pub mod TagEnds
-pub mod Binding
+pub mod Value
 pub mod Skips
 pub mod Bounds

@@ -4,25 +4,25 @@ use mathlib.Core.Bool.{true, false, ◌&&◌}
 use mathlib.Core.List.{List}
 use Prim.Native.Nat.{ℕ, ◌+◌, ◌≤◌, ◌<◌}
 use Prim.Native.Char.{code}
-use native.Mathlib.Numerals.{add-one}
 use lib.Dec.{eqb}
 use lib.ListN.{length, get_or, drop, drop_of_length-le}
-use lib.Seq.{drop-cons}
-use Rattle.xml_tags.specs.declared.TagEnd.TheVariants.{At, Unended}
-use Rattle.xml_tags.specs.Tags.{quote_after, tag_end}
+use Rattle.std.specs.Prelude.{Option, Some, None}
+use Rattle.text.proofs.Runs.{drop_next}
+use Rattle.xml_tags.specs.Tags.{quote_after, is_outside, tag_end}
 
--- r is the quote after the byte
-module _ (s : List ℕ) (q i : ℕ) where
+-- at i, with q the quote that is open there, the tag's end r is still ahead, or reached
+module _ (s : List ℕ) (q : Option ℕ) (i : ℕ) (r : Option ℕ) (v : tag_end q i (drop i s) ≡ r) where
+  -- p is the quote after the byte
   pub tag_on :
-      (r : ℕ) → i < length s → eqb q 0 && eqb (get_or s i 0) (code ">") ≡ false → r ≡ quote_after q (get_or s i 0)
-      → tag_end q i (drop i s) ≡ tag_end r (i + 1) (drop (i + 1) s)
+      (p : Option ℕ) → i < length s → is_outside q && eqb (get_or s i 0) (code ">") ≡ false → p ≡ quote_after q (get_or s i 0)
+      → tag_end p (i + 1) (drop (i + 1) s) ≡ r
   unfolding tag_end
-  tag_on r h e f = rw (f, drop-cons s i 0 h, e, add-one i)
+  tag_on p h e f = let n = drop_next s i h in rw f (rw (n, e) at v)
 
-  pub tag_stop : i < length s → eqb q 0 && eqb (get_or s i 0) (code ">") ≡ true → tag_end q i (drop i s) ≡ At i
+  pub tag_stop : i < length s → is_outside q && eqb (get_or s i 0) (code ">") ≡ true → Some i ≡ r
   unfolding tag_end
-  tag_stop h e = rw (drop-cons s i 0 h, e)
+  tag_stop h e = let n = drop_next s i h in rw (n, e) at v
 
-  pub tag_none : length s ≤ i → tag_end q i (drop i s) ≡ Unended
+  pub tag_none : length s ≤ i → None ≡ r
   unfolding tag_end
-  tag_none h = rw (drop_of_length-le s h)
+  tag_none h = rw (drop_of_length-le s h) at v

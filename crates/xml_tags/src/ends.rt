@@ -1,41 +1,34 @@
 // Where tags and their names end.
-ghost use Rattle.std.specs.Prelude.{◌≡◌, ◌+◌, drop};
-ghost use Rattle.xml_tags.specs.Tags.{quote_after, tag_end, name_end, tail};
+ghost use Rattle.std.specs.Prelude.{◌≡◌, ◌+◌, None, drop};
+ghost use Rattle.xml_tags.specs.Tags.{tag_end, name_end, tail};
 
+use crate::Tail;
 use crate::bytes::is_tag_byte;
-use crate::{TagEnd, Tail};
-
-// The quote that is open after the byte b, 0 for none; q is the one open before it.
-fn quote_after(q: u8, b: u8) -> u8
-    ensures { result ≡ quote_after q b }
-{
-    if q != 0 {
-        if b == q {
-            return 0;
-        }
-        return q;
-    }
-    if (b == b'"') | (b == b'\'') {
-        return b;
-    }
-    0
-}
 
 // Where the tag that goes on at an offset, outside quotes, ends: at the first ">" outside quotes.
-pub fn tag_end(s: &[u8], at: usize) -> TagEnd
-    ensures { result ≡ tag_end 0 at (drop at s.now) }
+pub fn tag_end(s: &[u8], at: usize) -> Option<usize>
+    ensures { result ≡ tag_end None at (drop at s.now) }
 {
-    let mut q: u8 = 0;
-    let mut i = at;
-    while i < s.len() {
+    let mut quote: Option<u8> = None;
+    for i in at..s.len() {
         let b = s[i];
-        if (q == 0) & (b == b'>') {
-            return TagEnd::At(i);
+        match quote {
+            Some(open) => {
+                if b == open {
+                    quote = None;
+                }
+            }
+            None => {
+                if b == b'>' {
+                    return Some(i);
+                }
+                if (b == b'"') | (b == b'\'') {
+                    quote = Some(b);
+                }
+            }
         }
-        q = quote_after(q, b);
-        i += 1;
     }
-    TagEnd::Unended
+    None
 }
 
 // Where the name that starts at an offset ends.
@@ -53,16 +46,17 @@ pub fn name_end(s: &[u8], at: usize) -> usize
     i
 }
 
-// What ends a tag from an offset on.
-pub fn read_tail(s: &[u8], at: usize) -> Tail
+// What ends a tag from an offset on, if white space and ">" or "/>" stand there.
+#[tactic(auto, using(text::proofs::Parts::starts_at_le), unfolding(crate::specs::Tags::tail))]
+pub fn read_tail(s: &[u8], at: usize) -> Option<Tail>
     ensures { result ≡ tail s.now at }
 {
     let i = text::skip_space(s, at);
     if text::starts_at(s, i, b">") {
-        return Tail::Open(i + 1);
+        return Some(Tail::Open(i + 1));
     }
     if text::starts_at(s, i, b"/>") {
-        return Tail::Empty(i + 2);
+        return Some(Tail::Empty(i + 2));
     }
-    Tail::Fault
+    None
 }

@@ -7,25 +7,24 @@ pub mod attributes; // attributes.rt: the name space attribute
 mod bytes; // bytes.rt: bytes by their kind
 pub mod ends; // ends.rt: where tags and their names end
 
-// Where a tag's ">" stands, or that it has none.
-#[derive(Drop)]
-pub enum TagEnd {
-    At(usize),
-    Unended,
-}
-
-// What ends a tag after its name or attribute: ">" or "/>", with the offset after it, or something else.
-#[derive(Drop)]
+// What ends a tag after its name or attribute: ">" or "/>", with the offset after it.
+#[derive(Clone, Copy, Debug, PartialEq, Eq)]
 pub enum Tail {
     Open(usize),
     Empty(usize),
-    Fault,
 }
 
-// The name space attribute of a tag: the prefix it binds (from, until), and the offset after the tag; an empty tag; or a fault.
-#[derive(Drop)]
-pub enum NameSpace {
-    Bound(usize, usize, usize),
+// The prefix that a tag's name space attribute binds, from one offset until another, and the offset after the tag.
+#[derive(Clone, Copy, Debug, PartialEq, Eq)]
+pub struct Binding {
+    pub from: usize,
+    pub until: usize,
+    pub next: usize,
+}
+
+// Why a tag binds no prefix that may be taken: it is an empty tag, or has a fault.
+#[derive(Clone, Copy, Debug, PartialEq, Eq)]
+pub enum NameSpaceError {
     Empty,
     Fault,
 }

@@ -1,18 +1,14 @@
-use mathlib.Core.Path.{refl}
+-- Past the end nothing is written; else as many bytes are copied as fit.
+use mathlib.Core.Path.{◌≡◌}
+use Prim.Native.Nat.{◌+◌, ◌-◌}
 use native.Mathlib.Omega.{arith}
-use lib.ListN.{length-set}
-use Rattle.buffer.proofs.Chain.{put_none}
-use Rattle.buffer.proofs.Copying.{copy_more, copy_full, copy_done}
+use Rattle.buffer.proofs.Chain.{put_past}
+use Rattle.buffer.proofs.Copying.{copied}
 use Rattle.buffer.proofs.put.Goals as goal
 
-pub loop-i-init : goal.loop-i-init
-loop-i-init c = (omega arith, refl, put_none _ _)
-
-pub returns-then-dst-k : goal.returns-then-dst-k
-returns-then-dst-k c = copy_full c.args.src.now c.loop-i.i c.loop-i.invariant.2 (omega arith)
-
-pub loop-i-preserved : goal.loop-i-preserved
-loop-i-preserved c = (omega arith, simp length-set c.loop-i.invariant.1, copy_more c.args.src.now c.loop-i.i c.loop-i.invariant.2 (omega arith) (omega arith))
+pub returns-then-dst-at : goal.returns-then-dst-at
+returns-then-dst-at c = put_past _ _ _ c.if-dst-at.true
 
 pub returns : goal.returns
-returns c = copy_done c.args.src.now c.loop-i.i c.loop-i.invariant.2 (omega arith)
+returns c = let n = c.min-n.result in let z : c.args.at + n - c.args.at ≡ n = omega arith in
+    rw (c.copy_from_slice.ensures.after, z) (copied c.args.dst.now c.args.at c.args.src.now n (omega arith) (omega arith) (λ l. omega arith))

@@ -1,12 +1,12 @@
--- `circle::circle_holds` meets its contract: by cases on the circle that was read.
-use mathlib.Core.Path.{◌∙◌}
+-- The circle that was read, if any, is asked.
+use Rattle.std.proofs.Common.{◌∙◌}
 use Rattle.circle.specs.Circle.{circle_holds}
 use Rattle.circle.proofs.circle_holds.Goals as goal
 
-pub returns-in-Around : goal.returns-in-Around
+pub returns-in_err-circle : goal.returns-in_err-circle
 unfolding circle_holds
-returns-in-Around c = c.around_holds.ensures ∙ rw (← c.read_circle-c.ensures, c.in-Around.is)
+returns-in_err-circle c = rw (c.from_residual.ensures, ← c.read_circle.ensures, c.in_err-circle.was)
 
-pub returns-in-Fault : goal.returns-in-Fault
+pub returns : goal.returns
 unfolding circle_holds
-returns-in-Fault c = rw (← c.read_circle-c.ensures, c.in-Fault.is)
+returns c = c.around_holds.ensures ∙ rw (← c.read_circle.ensures, c.in_ok-circle.was)

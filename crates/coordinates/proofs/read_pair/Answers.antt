@@ -3,13 +3,13 @@ use mathlib.Core.Path.{sym, ◌∙◌}
 use Rattle.coordinates.proofs.Readers.{no_pair, pair_part, pair_whole}
 use Rattle.coordinates.proofs.read_pair.Goals as goal
 
-pub returns-in_default : goal.returns-in_default
-returns-in_default c = no_pair c.args.text.now (sym c.leading_pair-pair.ensures ∙ c.in_default.is)
+pub returns-in_err-place : goal.returns-in_err-place
+returns-in_err-place c = rw c.from_residual.ensures (no_pair c.args.text.now (sym c.leading_pair.ensures ∙ c.in_err-place.was))
 
 pub returns-then-next-text : goal.returns-then-next-text
 returns-then-next-text c = pair_part c.args.text.now _ _
-    (sym c.leading_pair-pair.ensures ∙ c.in-At.is) c.if-next-text.true
+    (sym c.leading_pair.ensures ∙ c.in_ok-place.was) c.if-next-text.true
 
 pub returns : goal.returns
 returns c = pair_whole c.args.text.now _ _
-    (sym c.leading_pair-pair.ensures ∙ c.in-At.is) c.if-next-text.false
+    (sym c.leading_pair.ensures ∙ c.in_ok-place.was) c.if-next-text.false

@@ -1,48 +1,31 @@
-use mathlib.Core.Path.{sym, ap, ◌∙◌}
-use mathlib.Core.Option.{some}
+use mathlib.Core.Path.{sym, ◌∙◌}
 use native.Mathlib.Omega.{arith}
-use Rattle.text.specs.Answers.{gives}
-use Rattle.sheet.specs.declared.Found.{Found}
-use Rattle.sheet.proofs.ReadLoop.{loop_start, loop_count, loop_sheet, loop_none}
+use Rattle.sheet.proofs.ReadLoop.{loop_start, loop_end, loop_none}
 use Rattle.reader.proofs.Turns.{turn_room, turn_asked, turn_other, turn_stop}
 use Rattle.reader.proofs.read_back.Goals as goal
+use Rattle.reader.proofs.read_back.Goals.{then-count-k, else-count-k}
 
-pub loop-i-init : goal.loop-i-init
-loop-i-init c = (omega arith, omega arith, loop_start c.args.text.now c.args.k _)
+pub loop-at-init : goal.loop-at-init
+loop-at-init c = (omega arith, omega arith, loop_start c.args.text.now c.args.k)
 
-pub loop-i-preserved-then-n-k : goal.loop-i-preserved-then-n-k
-loop-i-preserved-then-n-k c = let a = c.args in
-    let r = turn_room c.args.text.now c.loop-i.i c.line_at.ensures c.in-Sentence.is c.loop-i.invariant.1 in
-    let e = c.in-Sentence.is in (
+pub loop-at-preserved : goal.loop-at-preserved
+loop-at-preserved c = let t = c.args.text.now in let k = c.args.k in let n = c.loop-at.count in let o = c.loop-at.sheet in
+    let e = sym c.line_at.ensures ∙ c.in-Some.is in
+    let r = turn_room t c.loop-at.at e c.loop-at.invariant.1 in (
       omega arith,
       r.1,
-      turn_asked a.text.now c.loop-i.i c.line_at.ensures e a.k c.loop-i.n c.loop-i.asked c.if-n-k.true ∙ c.loop-i.invariant.2,
+      elim c.if-count-k.branch [
+        | then-count-k w ↦ rw w.sheet-is (turn_asked t c.loop-at.at e k n o w.if-count-k.true ∙ c.loop-at.invariant.2)
+        | else-count-k w ↦ rw w.sheet-is (turn_other t c.loop-at.at e k n o w.if-count-k.false ∙ c.loop-at.invariant.2)
+      ],
     )
 
-pub loop-i-preserved : goal.loop-i-preserved
-loop-i-preserved c = let a = c.args in
-    let r = turn_room c.args.text.now c.loop-i.i c.line_at.ensures c.in-Sentence.is c.loop-i.invariant.1 in
-    let e = c.in-Sentence.is in (
-      omega arith,
-      r.1,
-      turn_other a.text.now c.loop-i.i c.line_at.ensures e a.k c.loop-i.n c.loop-i.asked c.if-n-k.false ∙ c.loop-i.invariant.2,
-    )
+pub returns-in_default : goal.returns-in_default
+returns-in_default c =
+    turn_stop c.args.text.now c.loop-at.at c.args.k _ _ c.loop-at-test.true (sym c.line_at.ensures ∙ c.in_default.is) ∙ c.loop-at.invariant.2
 
-pub returns-in-Other : goal.returns-in-Other
-returns-in-Other c = let h = c.loop-i-test.true in
-    turn_stop c.args.text.now c.loop-i.i c.line_at.ensures _ _ _ h c.in-Other.is
-    ∙ c.loop-i.invariant.2
-
-pub returns-then-k-eq0 : goal.returns-then-k-eq0
-returns-then-k-eq0 c = let a = c.args in
-    sym (loop_count a.text.now a.k c.loop-i.i _ _ c.loop-i-test.false c.if-k-eq0.true) ∙ c.loop-i.invariant.2
-
-pub returns-then-n-k-2 : goal.returns-then-n-k-2
-returns-then-n-k-2 c = let a = c.args in
-    sym (loop_none a.text.now a.k c.loop-i.i _ _ c.loop-i-test.false c.if-n-k-2.true) ∙ c.loop-i.invariant.2
+pub returns-then-count-k-2 : goal.returns-then-count-k-2
+returns-then-count-k-2 c = sym (loop_none c.args.text.now c.args.k c.loop-at.at _ _ c.loop-at-test.false c.if-count-k-2.true) ∙ c.loop-at.invariant.2
 
 pub returns : goal.returns
-returns c = let a = c.args in
-    ap (λ (f : Found). gives (c.loop-i.n, some f)) c.found_at.ensures
-    ∙ sym (loop_sheet a.text.now a.k c.loop-i.i _ _ c.loop-i-test.false (omega arith) c.if-n-k-2.false)
-    ∙ c.loop-i.invariant.2
+returns c = sym (loop_end c.args.text.now c.args.k c.loop-at.at _ _ c.loop-at-test.false c.if-count-k-2.false) ∙ c.loop-at.invariant.2

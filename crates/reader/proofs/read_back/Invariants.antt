@@ -1,4 +1,4 @@
--- Before each turn the answer from the offset i on, with n read-backs before it, is the answer to the whole text.
+-- Before each turn the answer from the offset `at` on, with `count` read-backs before it, is the answer to the whole text.
 -- a read-back was met: it has a byte, and lies within the text
 use mathlib.Core.Path.{◌≡◌}
 use Prim.Native.Nat.{◌-◌, ◌≤◌}
@@ -7,8 +7,9 @@ use Rattle.sheet.specs.Answers.{read_back}
 use Rattle.reader.proofs.Turns.{answer_from}
 use Rattle.reader.proofs.read_back.Given as goal
 
-abbrev pub invariant-loop-i : goal.invariant-loop-i
-invariant-loop-i l = (l.n ≤ l.i) × (l.i ≤ length l.text) × (answer_from l.text l.k l.i l.n l.asked ≡ read_back l.text l.k)
+abbrev pub invariant-loop-at : goal.invariant-loop-at
+invariant-loop-at l =
+    (l.count ≤ l.at) × (l.at ≤ length l.text) × (answer_from l.text l.k l.at l.count l.sheet ≡ read_back l.text l.k)
 
-abbrev pub decreases-loop-i : goal.decreases-loop-i
-decreases-loop-i l = length l.text - l.i
+abbrev pub decreases-loop-at : goal.decreases-loop-at
+decreases-loop-at l = length l.text - l.at

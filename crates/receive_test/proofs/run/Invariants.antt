@@ -1,10 +1,9 @@
--- `receive_test::run` is safe and ends: each turn starts after the last record.
-use Prim.Native.Nat.{◌≤◌, ◌-◌}
-use lib.ListN.{length}
+-- Each turn takes a record.
+use Rattle.std.proofs.Common.{length}
 use Rattle.receive_test.proofs.run.Given as goal
 
-abbrev pub invariant-loop-at : goal.invariant-loop-at
-invariant-loop-at l = l.at ≤ length l.input
+abbrev pub invariant-loop-record : goal.invariant-loop-record
+invariant-loop-record g l = Unit {0}
 
-abbrev pub decreases-loop-at : goal.decreases-loop-at
-decreases-loop-at l = length l.input - l.at
+abbrev pub decreases-loop-record : goal.decreases-loop-record
+decreases-loop-record g l = length l.rest

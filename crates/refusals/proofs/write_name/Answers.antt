@@ -1,12 +1,16 @@
--- The table of names passes its test, computed here.
-use Rattle.refusals.specs.Names.{names, name_of}
-use Rattle.refusals.proofs.Names.{unnamed, no_name}
+-- The number has no name, or its name is written or has no room.
+use native.Mathlib.Omega.{arith}
+use Rattle.std.proofs.lemmas.Grind.{common_steps}
+use Rattle.std.proofs.lemmas.Result.{err_from_is_err_and}
+use Rattle.refusals.proofs.Names.{named, unnamed}
 use Rattle.refusals.proofs.write_name.Goals as goal
 
-pub returns-then-n-ge25 : goal.returns-then-n-ge25
-unfolding names name_of
-returns-then-n-ge25 c = unnamed _ _ _ (no_name _ c.if-n-ge25.true)
+pub returns-then-is_empty : goal.returns-then-is_empty
+returns-then-is_empty c = unnamed _ _ _ (grind (arith, common_steps))
 
-pub write_row-requires : goal.write_row-requires
-unfolding names name_of
-write_row-requires c = record { right = tt; number_below = c.if-n-ge25.false }
+pub returns-in_err-write_text : goal.returns-in_err-write_text
+returns-in_err-write_text c = let p = err_from_is_err_and c.from_residual.result c.from_residual.ensures.1 in
+    rw (p.1, p.2) (named _ _ _ (grind (arith, common_steps)) (rw c.name_of-name.ensures at c.in_err-write_text.ensures))
+
+pub returns : goal.returns
+returns c = named _ _ _ (grind (arith, common_steps)) (rw c.name_of-name.ensures at c.in_ok-write_text.ensures)

@@ -1,8 +1,7 @@
--- What is written lies in the buffer.
-use mathlib.Core.Path.{sym}
-use native.Mathlib.Omega.{arith}
+use Rattle.std.proofs.Common.{sym}
 use lib.Seq.{length-take-le}
+use Rattle.sentences.proofs.Within.{end_within}
 use Rattle.sentences.proofs.print_report.Goals as goal
 
 pub slice_bounds-write_all-end : goal.slice_bounds-write_all-end
-slice_bounds-write_all-end c = sym (length-take-le _ _ (omega arith))
+slice_bounds-write_all-end g c = sym (length-take-le _ _ (end_within _ _ c.in-Ok.ensures.0 c.write_report.ensures.1))

@@ -1,10 +1,9 @@
--- `values_test::print_cases` is safe and ends: each turn starts further on.
-use Prim.Native.Nat.{◌-◌}
-use lib.ListN.{length}
+-- Each turn starts further on.
+use Rattle.std.proofs.Common.{length}
 use Rattle.values_test.proofs.print_cases.Given as goal
 
-abbrev pub invariant-loop-start : goal.invariant-loop-start
-invariant-loop-start l = Unit {0}
+abbrev pub invariant-loop-kind : goal.invariant-loop-kind
+invariant-loop-kind g l = Unit {0}
 
-abbrev pub decreases-loop-start : goal.decreases-loop-start
-decreases-loop-start l = length l.input - l.start
+abbrev pub decreases-loop-kind : goal.decreases-loop-kind
+decreases-loop-kind g l = length l.rest

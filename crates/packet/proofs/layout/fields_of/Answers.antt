@@ -1,39 +1,33 @@
--- `fields_of` meets its contract: each field is what its group gave.
-use borrow.Author.Rules.{rules}
-use Rattle.packet.specs.Packet.{coordinate, fields_of}
-use Rattle.packet.proofs.Signs.{given_as}
+-- Each field is the number that its bytes write.
+use Rattle.std.proofs.Common.{arith, rules}
+use Rattle.packet.specs.Packet.{fields_of}
+use Rattle.packet.proofs.Numbers.{number_one, number_two, number_four, number_eight}
+use Rattle.packet.proofs.Signs.{coordinate_at}
 use Rattle.packet.proofs.layout.fields_of.Goals as goal
 
 pub returns : goal.returns
 unfolding fields_of
-returns c = let flags = c.flags_of-flags.ensures in
-    let message = c.message_of-message.ensures in
-    let hazard = c.hazard_of-hazard.ensures in
-    let times = c.times_of-times.ensures in
-    let area = c.area_of-area.ensures in
-    let p = c.args.p.now in
-    let lat = given_as _ (coordinate 0x36 p) (search rules) area.0 in
-    let lon = given_as _ (coordinate 0x3A p) (search rules) area.1 in
+returns c = let p = c.args.p.now in
     λ i. record {
-      urgent = flags.0 i;
-      update = flags.1 i;
-      cancel = flags.2 i;
-      test = flags.3 i;
-      timestamp = message.0 i;
-      event = message.1 i;
-      sequence = message.2 i;
-      ttl = message.3 i;
-      hazard_major = hazard.0 i;
-      hazard_minor = hazard.1 i;
-      urgency = hazard.2 i;
-      severity = hazard.3 i;
-      certainty = hazard.4 i;
-      response = hazard.5 i;
-      onset = times.0 i;
-      expiry = times.1 i;
-      effective = times.2 i;
-      lat = lat i;
-      lon = lon i;
-      radius = area.2 i;
-      key = c.u32_at-key.ensures i;
+      urgent = c.flag.ensures i;
+      update = c.flag-2.ensures i;
+      cancel = c.flag-3.ensures i;
+      test = c.flag-4.ensures i;
+      timestamp = number_eight p 0x08 _ _ c.from_be_bytes.ensures c.bytes_at.ensures (omega arith) i;
+      event = number_four p 0x10 _ _ c.from_be_bytes-2.ensures c.bytes_at-2.ensures (omega arith) i;
+      sequence = number_two p 0x14 _ _ c.from_be_bytes-3.ensures c.bytes_at-3.ensures (omega arith) i;
+      ttl = number_two p 0x16 _ _ c.from_be_bytes-4.ensures c.bytes_at-4.ensures (omega arith) i;
+      hazard_major = number_one p 0x18 (omega arith) i;
+      hazard_minor = number_one p 0x19 (omega arith) i;
+      urgency = number_one p 0x1A (omega arith) i;
+      severity = number_one p 0x1B (omega arith) i;
+      certainty = number_one p 0x1C (omega arith) i;
+      response = number_one p 0x1D (omega arith) i;
+      onset = number_eight p 0x1E _ _ c.from_be_bytes-5.ensures c.bytes_at-5.ensures (omega arith) i;
+      expiry = number_eight p 0x26 _ _ c.from_be_bytes-6.ensures c.bytes_at-6.ensures (omega arith) i;
+      effective = number_eight p 0x2E _ _ c.from_be_bytes-7.ensures c.bytes_at-7.ensures (omega arith) i;
+      lat = coordinate_at p 0x36 _ _ (search rules) c.from_be_bytes-8.ensures c.bytes_at-8.ensures (omega arith) i;
+      lon = coordinate_at p 0x3A _ _ (search rules) c.from_be_bytes-9.ensures c.bytes_at-9.ensures (omega arith) i;
+      radius = number_two p 0x3E _ _ c.from_be_bytes-10.ensures c.bytes_at-10.ensures (omega arith) i;
+      key = number_four p _ _ _ c.from_be_bytes-11.ensures c.bytes_at-11.ensures (omega arith) i;
     }

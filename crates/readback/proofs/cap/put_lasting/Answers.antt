@@ -3,10 +3,10 @@ use Rattle.buffer.proofs.Chain.{both}
 use Rattle.sheet.specs.Sentence.{lasting_text}
 use Rattle.readback.proofs.cap.put_lasting.Goals as goal
 
-pub returns-in-Unstated : goal.returns-in-Unstated
+pub returns-in-None : goal.returns-in-None
 unfolding lasting_text
-returns-in-Unstated c = rw c.in-Unstated.is c.put.ensures
+returns-in-None c = rw c.in-None.is c.put.ensures
 
-pub returns-in-Seconds : goal.returns-in-Seconds
+pub returns-in-Some : goal.returns-in-Some
 unfolding lasting_text
-returns-in-Seconds c = rw c.in-Seconds.is (both c.duration_field.ensures)
+returns-in-Some c = rw c.in-Some.is (both c.put_field.ensures)

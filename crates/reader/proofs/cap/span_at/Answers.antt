@@ -1,9 +1,6 @@
--- The offset, and the length of the word there.
-use mathlib.Core.Path.{ap}
-use Prim.Native.Nat.{ℕ, ◌+◌, ◌-◌}
-use lib.ListN.{length}
+-- The word that leads the rest is as long as it is said to be.
+use Rattle.reader.proofs.Words.{length_word}
 use Rattle.reader.proofs.cap.span_at.Goals as goal
 
 pub returns : goal.returns
-returns c = let a = c.args in
-    ap (λ (n : ℕ). record { start = a.at + (length a.t.now - length a.rest.now); len = n }) c.word_length.ensures
+returns c = rw (c.split_word.ensures.0, length_word)

@@ -1,22 +1,37 @@
--- Each flag and each group of facts is read where the definition reads it.
-use mathlib.Core.Path.{ap, ◌∙◌}
-use Rattle.text.specs.Ascii.{ascii}
-use Rattle.text.specs.Parts.{starts_with}
-use Rattle.sheet.specs.Reading.{after_flag, from_update, from_cancel, from_test, after_flags}
-use Rattle.reader.specs.Pieces.{hazard_of}
-use Rattle.reader.proofs.WarnFacts.{last_is, warn_is}
+-- Each fact is read where the definition reads it: rewritten from the last to the first, since each stands after the one before.
+use Rattle.sheet.specs.Reading.{numbers_after, rest_after_all, from_update, from_cancel, from_test, after_flags, from_period, from_hazard, warn_of}
 use Rattle.reader.proofs.warn.warn_of.Goals as goal
 
 pub returns : goal.returns
-unfolding from_update from_cancel from_test after_flags
-returns c = let u = c.skip-urgent.ensures in
-    let d = c.after_flag-update.ensures ∙ ap (after_flag (ascii " urgent")) u in
-    let n = c.after_flag-cancel.ensures ∙ ap (after_flag (ascii " update")) d in
-    let t = c.after_flag-test.ensures ∙ ap (after_flag (ascii " cancel")) n in
-    let e = c.after_flag-event.ensures ∙ ap (after_flag (ascii " test")) t in
-    let o = c.origin_of-o.ensures in
-    let h = c.hazard_of-h.ensures ∙ ap hazard_of (c.last.ensures ∙ last_is c.after_flag-event.result.now o) in
-    warn_is _ e o h (c.starts_with.ensures ∙ ap (starts_with (ascii " urgent")) u)
-    (c.starts_with-2.ensures ∙ ap (starts_with (ascii " update")) d)
-    (c.starts_with-3.ensures ∙ ap (starts_with (ascii " cancel")) n)
-    (c.starts_with-4.ensures ∙ ap (starts_with (ascii " test")) t)
+unfolding warn_of numbers_after rest_after_all from_update from_cancel from_test after_flags from_period from_hazard
+returns c = rw (
+  c.byte_after-response.ensures.0,
+  c.byte_after-certainty.ensures.1,
+  c.byte_after-certainty.ensures.0,
+  c.byte_after-severity.ensures.1,
+  c.byte_after-severity.ensures.0,
+  c.byte_after-urgency.ensures.1,
+  c.byte_after-urgency.ensures.0,
+  c.byte_after-kind.ensures.1,
+  c.byte_after-kind.ensures.0,
+  c.byte_after-hazard.ensures.1,
+  c.byte_after-hazard.ensures.0,
+  c.skip-t.ensures,
+  c.read_duration-lasting.ensures,
+  c.after-t.ensures,
+  c.number_after-origin.ensures.1,
+  c.number_after-origin.ensures.0,
+  c.number_after-number.ensures.1,
+  c.number_after-number.ensures.0,
+  c.number_after-event.ensures.1,
+  c.number_after-event.ensures.0,
+  c.flag-test.ensures.1,
+  c.flag-test.ensures.0,
+  c.flag-cancel.ensures.1,
+  c.flag-cancel.ensures.0,
+  c.flag-update.ensures.1,
+  c.flag-update.ensures.0,
+  c.flag-urgent.ensures.1,
+  c.flag-urgent.ensures.0,
+  c.after.ensures,
+)

@@ -15,7 +15,7 @@ unfolding names
 returns-then-is_named c = let w = c.candidate-class in
     sym (named_class _ w.result w.ensures.0 (sym c.is_named.ensures ∙ c.if-is_named.true))
 
-pub returns : goal.returns
+pub returns-else-is_named : goal.returns-else-is_named
 unfolding names
-returns c = let w = c.candidate-class in
+returns-else-is_named c = let w = c.candidate-class in
     other_name _ w.result w.ensures.1 (sym c.is_named.ensures ∙ c.if-is_named.false)

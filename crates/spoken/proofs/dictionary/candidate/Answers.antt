@@ -1,13 +1,15 @@
 -- A word that has a code has 3 to 9 letters, and its hash leads to its code.
+use mathlib.Core.List.{[]}
 use native.Mathlib.Omega.{arith}
 use Rattle.spoken.proofs.Hash.{found_low, not_short, not_long, found_code}
 use Rattle.spoken.proofs.dictionary.candidate.Goals as goal
 
-pub returns-then-n-lt3 : goal.returns-then-n-lt3
-returns-then-n-lt3 c = (omega arith, λ h. absurd (omega (arith, not_short c.requires c.args.word.now h)))
+pub returns-in_default : goal.returns-in_default
+returns-in_default c = (omega arith, λ h. absurd (omega (arith, not_short c.args.word.now h)))
 
-pub returns-then-n-gt9 : goal.returns-then-n-gt9
-returns-then-n-gt9 c = (omega arith, λ h. absurd (omega (arith, not_long c.requires c.args.word.now h)))
+pub returns-in-None : goal.returns-in-None
+returns-in-None c = (omega arith, λ h. absurd (omega (arith, not_long c.args.word.now h, c.in-None.ensures.lookup.3)))
 
-pub returns : goal.returns
-returns c = (found_low c.requires _ _ (omega arith) (omega arith), λ h. rw c.hash-h.ensures (found_code c.requires c.args.word.now h))
+pub returns-in-Some : goal.returns-in-Some
+returns-in-Some c = let l = c.in-Some.ensures.lookup in
+    rw (l.4 (omega arith) []) (found_low _ _ l.3.0 (omega arith), found_code c.args.word.now)

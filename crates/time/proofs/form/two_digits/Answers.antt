@@ -5,6 +5,6 @@ use Rattle.time.proofs.form.two_digits.Goals as goal
 
 pub returns : goal.returns
 returns c = (
-  two_digits _ _ _ _ c.requires c.digit.ensures.0 c.digit-2.ensures.0,
+  two_digits c.args.text.now c.args.at _ _ (omega arith) c.digit.ensures.0 c.digit-2.ensures.0,
   omega arith,
 )

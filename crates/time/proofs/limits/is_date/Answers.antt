@@ -1,5 +1,6 @@
--- The tests are the definition's, with the month's days from the callee.
+-- The day is 0, or an earlier test fails.
+use Rattle.std.proofs.Common.{rules, tests}
 use Rattle.time.proofs.limits.is_date.Goals as goal
 
-pub returns : goal.returns
-returns c = rw c.month_days.ensures
+pub returns-else-d-ge1 : goal.returns-else-d-ge1
+returns-else-d-ge1 c = search (rules, tests)

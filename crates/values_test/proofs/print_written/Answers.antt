@@ -1,7 +1,0 @@
--- `values_test::print_written` is safe and ends: the part that is printed has the length that was answered.
-use mathlib.Core.Path.{sym}
-use lib.Seq.{length-take-le}
-use Rattle.values_test.proofs.print_written.Goals as goal
-
-pub slice_bounds-print-end : goal.slice_bounds-print-end
-slice_bounds-print-end c = sym (length-take-le _ _ c.if-n-words.true)
