@@ -50,7 +50,7 @@ pub fn token_end(s: &[u8], at: usize) -> usize
 pub fn skip(t: &[u8], k: usize) -> &[u8]
     ensures { result.now ≡ drop k t.now }
 {
-    t.get(k..).unwrap_or(b"")
+    &t[k.min(t.len())..]
 }
 
 // The first k bytes of a text, or all of it where it has fewer.
