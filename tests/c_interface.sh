@@ -1,6 +1,6 @@
 #!/usr/bin/env bash
 # The library as C sees it: the header, the examples and the programs in c/ compile without a warning in every dialect, they print what is stored there,
-# and no function takes more stack than the header says. Its last line is 'N passed, M failed'.
+# the archive needs no other function than the header says, and no function takes more stack. Its last line is 'N passed, M failed'.
 #
 #     tests/archive.sh && tests/c_interface.sh
 cd "$(dirname "$0")/.."
@@ -69,6 +69,10 @@ prints sentence tests/c/late-refusal.out <tests/c/late-refusal.xml
 prints sentence tests/c/refused.out <tests/vectors/005-A2-raw.xml
 receives tests/vectors/warn-01-sample.hex tests/c/receipt.out
 receives tests/c/uncancelled.hex tests/c/uncancelled.out # the sample without its CANCEL flag
+
+# ---- what it needs from outside: what the header says, no more
+
+try "names from outside" sh -c '! nm -u "$1" | grep " U " | grep -vE " U (memcpy|memset)$"' sh "$archive"
 
 # ---- its stack
 

@@ -1,31 +1,22 @@
--- The bytes of a text that fit are copied at once.
-use mathlib.Core.Path.{◌≡◌, refl, sym}
-use mathlib.Core.List.{List, append_assoc}
+-- A text copied byte by byte.
+use mathlib.Core.Path.{◌≡◌}
+use mathlib.Core.List.{List}
 use Prim.Native.Nat.{ℕ, ◌+◌, ◌≤◌, ◌<◌}
-use native.Mathlib.Omega.{arith}
-use lib.Dec.{ltb}
-use lib.ListN.{length, take, drop, take-append-drop, drop_of_length-le}
-use lib.Seq.{sets-eq, drop-drop, length-take-le}
-use borrow.Author.Tests.{ltb-true, ltb-false}
-use borrow.Rule.Slice.PartMut.{put_mid}
-use Rattle.text.specs.Logic.{by_test}
-use Rattle.buffer.specs.Cursor.{Put}
-use Rattle.buffer.proofs.Chain.{put_none, put_past, put_then}
-use Rattle.buffer.proofs.Lent.{put_within}
-use Rattle.buffer.proofs.Room.{text_in}
+use native.Mathlib.Numerals.{add-one}
+use lib.ListN.{length, take, drop, set, get_or, take-append-drop}
+use lib.Seq.{take-suc, take-length}
+use Rattle.buffer.specs.Cursor.{put_text, Put}
+use Rattle.buffer.proofs.Chain.{put_append, put_past, put_then}
+use Rattle.buffer.proofs.Room.{byte_in}
 
-module _ (d : List ℕ) (at : ℕ) where
-  -- a text that has room is put where it goes
-  whole : (t : List ℕ) (n : ℕ) → length t ≡ n → at + n ≤ length d → Put d at t (put_mid at n d t) (at + n)
-  whole t n e h =
-      let w = rw append_assoc at (sets-eq t d at (omega arith)) in
-      record { result = rw (drop-drop n at d, ← e, ← w) (sym (text_in d at (at + length t) t refl (omega arith))) }
+-- the first i bytes of s are written
+module _ (s : List ℕ) (i : ℕ) {d e : List ℕ} {at k : ℕ} (p : Put d at (take i s) e k) where
+  pub copy_more : i < length s → k < length e → Put d at (take (i + 1) s) (set e k (get_or s i 0)) (k + 1)
+  unfolding put_text
+  copy_more h l = record { result = rw (add-one i, take-suc s i 0, put_append, ← p.result, byte_in e k (get_or s i 0) l) }
 
-  -- the first n bytes of s are copied: all of them, or as many as have room
-  pub copied : (s : List ℕ) (n : ℕ) → n ≤ length s → at + n ≤ length d → (at + n < length d → n ≡ length s) → Put d at s (put_mid at n d (take n s)) (at + n)
-  copied s n h k f =
-      let w = whole (take n s) n (length-take-le n s h) k in
-      rw (take-append-drop n s) at (put_then w
-      (by_test (ltb (at + n) (length d))
-      (λ t. rw (drop_of_length-le s {i = n} (omega (arith, f (ltb-true _ _ t)))) (put_none _ _))
-      (λ t. put_past _ _ (drop n s) (omega (arith, (put_within w (omega arith)).0, ltb-false _ _ t)))))
+  pub copy_full : length e ≤ k → Put d at s e k
+  copy_full h = rw (take-append-drop i s) at (put_then p (put_past e k (drop i s) h))
+
+  pub copy_done : i ≡ length s → Put d at s e k
+  copy_done h = rw (h, take-length) at p

@@ -11,7 +11,7 @@ use Rattle.text.specs.Answers.{gives, refuses}
 use Rattle.buffer.specs.Cursor.{cursor, put_byte, put_text, Put}
 use Rattle.buffer.specs.Writing.{written, write_text, after_text}
 
-byte_in : (d : List ℕ) (at b : ℕ) → at < length d → put_byte (cursor d at) b ≡ cursor (set d at b) (at + 1)
+pub byte_in : (d : List ℕ) (at b : ℕ) → at < length d → put_byte (cursor d at) b ≡ cursor (set d at b) (at + 1)
 unfolding put_byte
 byte_in d at b h = rw (lt-ltb at (length d) h)
 

@@ -18,9 +18,14 @@ pub fn put(dst: &mut [u8], at: usize, src: &[u8]) -> usize
     if dst.len() <= at {
         return at;
     }
-    let n = src.len().min(dst.len() - at);
-    dst[at..at + n].copy_from_slice(&src[..n]);
-    at + n
+    // kept: byte by byte, since of the slice's own copy the compiler makes a call of memmove, which the library for C does without
+    for i in 0..src.len() {
+        if dst.len() <= at + i {
+            return at + i;
+        }
+        dst[at + i] = src[i];
+    }
+    at + src.len()
 }
 
 // Writes a text into the buffer from start on and gives where it ends; changes nothing where it has no room there.
