@@ -65,6 +65,28 @@ for program in sentences packet_sentence "inside 0 0" list_readbacks; do
     crates/${program%% *}/out/$program <tests >"$got"
     expect "$program, a folder as its input" "$got.all" "$got"
 done
+# a read that fails just behind as many bytes as the program takes: failing BYTES PROGRAM ARGUMENTS...
+failing() {
+    python3 -c 'import fcntl, os, subprocess, sys
+ours, theirs = os.pipe()
+fcntl.fcntl(theirs, 1031, 1 << 17)  # F_SETPIPE_SZ
+os.write(theirs, b"x" * int(sys.argv[1]))
+os.set_blocking(ours, False)
+subprocess.run(sys.argv[2:], stdin=ours)' "$1" "crates/$2/out/$2" "${@:3}"
+}
+for program in "65537 sentences" "1201 packet_sentence" "65537 inside 0 0"; do
+    failing $program >"$got"
+    expect "$program, a read that fails behind" "$got.all" "$got"
+done
+# whether the output can be written is not looked at: no program fails for it, or says so
+echo 0 >"$got.all"
+for program in sentences packet_sentence "inside 0 0" list_readbacks values_test readback_test receive_test document_test; do
+    records=crates/${program%% *}/stdin
+    [ -e "$records" ] || records=/dev/null
+    crates/${program%% *}/out/$program <"$records" >/dev/full 2>"$got"
+    echo $? >>"$got"
+    expect "$program, a full disk" "$got.all" "$got"
+done
 head -c 262145 /dev/zero | crates/receive_test/out/receive_test >"$got"
 echo "input over 262144 bytes" >"$got.all"
 expect "receive_test, an input too long" "$got.all" "$got"

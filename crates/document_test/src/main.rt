@@ -1,6 +1,6 @@
 // Checks documents, and writes for each whether it is accepted, with its number of parts, or refused, with number and offset.
 // Standard input is a run of records: a length (3 bytes, big-endian) and a document. tests/documents.py writes the records and, by
-// the independent model, the stored output.
+// the independent model, the stored output. A line that can't be written is left out.
 
 #![tactic(auto)]
 
@@ -23,11 +23,10 @@ fn read_length<R: Read>(reader: &mut R) -> Option<usize> {
 }
 
 // Checks the documents of the input, at most a million; stops at one that the buffer can't hold, or that the input ends before.
-fn main(rt: HostRuntime) -> io::Result<()> {
+fn check_all<R: Read>(rt: &impl Print, reader: &mut R) -> io::Result<()> {
     let mut buffer = [0u8; 70000];
-    let mut reader = rt.reader();
     for _ in 0..1000000 {
-        let Some(length) = read_length(&mut reader) else {
+        let Some(length) = read_length(reader) else {
             return Ok(());
         };
         let Some(document) = buffer.get_mut(..length) else {
@@ -36,7 +35,11 @@ fn main(rt: HostRuntime) -> io::Result<()> {
         if reader.read_exact(document).is_err() {
             return println!(rt; "document cut short");
         }
-        print_check(&rt, document)?;
+        let _ = print_check(rt, document);
     }
     println!(rt; "stopped after 1000000 documents")
+}
+
+fn main(rt: HostRuntime) {
+    let _ = check_all(&rt, &mut rt.reader());
 }

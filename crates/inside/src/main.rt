@@ -1,4 +1,5 @@
-// Reads one CAP document from standard input and writes for each part whether the place given as arguments is inside it, and why.
+// Reads one CAP document from standard input and writes for each part whether the place given as arguments is inside it, and why. A line that can't be
+// written is left out.
 
 #![tactic(auto)]
 
@@ -41,7 +42,7 @@ fn print_answers(rt: &impl Print, document: &[u8], place: Place) -> io::Result<(
         Ok(0) => print_part(rt, document, 0, place),
         Ok(total) => {
             for part in 1..=total {
-                print_part(rt, document, part, place)?;
+                let _ = print_part(rt, document, part, place);
             }
             Ok(())
         }
@@ -52,7 +53,7 @@ fn print_answers(rt: &impl Print, document: &[u8], place: Place) -> io::Result<(
 fn answer(rt: &HostRuntime, place: Place) -> io::Result<()> {
     let mut buffer = [0u8; document::MAX_LENGTH + 1]; // one byte more than a document may have: what follows can't change the answer
     match input::read_input(&mut rt.reader(), &mut buffer) {
-        Ok(document) => print_answers(rt, document, place),
+        Ok(input) => print_answers(rt, input.bytes, place),
         Err(_) => println!(rt; "input can't be read"),
     }
 }
@@ -78,12 +79,13 @@ fn main(rt: HostRuntime) -> io::Result<()> {
         Err(e) if e.kind() == ErrorKind::InvalidData => None,
         Err(e) => return Err(e),
     };
-    match place {
+    let _ = match place {
         Some(place) => answer(&rt, place),
         None => {
             println!(rt;
                 "usage: inside LATITUDE LONGITUDE < DOCUMENT (degrees, south and west negative, at most seven decimals)"
             )
         }
-    }
+    };
+    Ok(())
 }

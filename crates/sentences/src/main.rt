@@ -1,4 +1,5 @@
-// Reads one CAP document from standard input and writes each part's sentence, or the refusal that stops it.
+// Reads one CAP document from standard input and writes each part's sentence, or the refusal that stops it. Whether the output can be written is not
+// looked at.
 
 #![tactic(auto)]
 
@@ -14,10 +15,10 @@ fn print_report(rt: &impl Print, document: &[u8]) -> io::Result<()> {
     }
 }
 
-fn main(rt: HostRuntime) -> io::Result<()> {
+fn main(rt: HostRuntime) {
     let mut buffer = [0u8; document::MAX_LENGTH + 1]; // one byte more than a document may have: what follows can't change the answer
-    match input::read_input(&mut rt.reader(), &mut buffer) {
-        Ok(document) => print_report(&rt, document),
+    let _ = match input::read_input(&mut rt.reader(), &mut buffer) {
+        Ok(input) => print_report(&rt, input.bytes),
         Err(_) => println!(rt; "input can't be read"),
-    }
+    };
 }
