@@ -18,14 +18,12 @@ pub fn put(dst: &mut [u8], at: usize, src: &[u8]) -> usize
     if dst.len() <= at {
         return at;
     }
+    let count = src.len().min(dst.len() - at);
     // kept: byte by byte, since of the slice's own copy the compiler makes a call of memmove, which the library for C does without
-    for i in 0..src.len() {
-        if dst.len() <= at + i {
-            return at + i;
-        }
+    for i in 0..count {
         dst[at + i] = src[i];
     }
-    at + src.len()
+    at + count
 }
 
 // Writes a text into the buffer from start on and gives where it ends; changes nothing where it has no room there.
