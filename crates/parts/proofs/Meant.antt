@@ -6,7 +6,7 @@ use Prim.Native.Nat.{ℕ, ◌+◌, ◌-◌, ◌≤◌, ◌<◌}
 use native.Mathlib.Omega.{arith}
 use borrow.Author.Tests.{eqb-true, eqb-false, lt-ltb, ne_eqb}
 use lib.Dec.{eqb, ltb}
-use Rattle.std.specs.Prelude.{Option, Some, None, is_some}
+use Rattle.std.specs.Prelude.{Option, Some, None, is_some, Result}
 use Rattle.text.specs.Logic.{by_test}
 use Rattle.text.specs.Answers.{Answer, gives, refuses, answer_and_then, giving}
 use Rattle.coordinates.specs.declared.Place.{Place}
@@ -22,11 +22,14 @@ use Rattle.document.proofs.Schema.{parts_limit}
 use Rattle.parts.specs.declared.texts.Facts.{Facts}
 use Rattle.parts.specs.declared.areas.Shapes.{Shapes}
 use Rattle.parts.specs.declared.ShapeAt.{ShapeAt}
+use Rattle.parts.specs.declared.Side as code
+use Rattle.parts.specs.declared.Why.{Why}
+use Rattle.parts.specs.declared.PlaceError.{PlaceError}
 use Rattle.parts.specs.Elements.{alert_of, part_of, look_up, text_span}
 use Rattle.parts.specs.Sheets.{lasts_of, part_facts, sheet_with, parts_of, sheet_of_part, cap_sheet}
 use Rattle.parts.specs.Areas.{areas_of}
-use Rattle.parts.specs.Places.{side_of, any_shape, any_holds, asked_about, cap_place}
-use Rattle.parts.specs.Reasons.{Reason, side_by, reason_of, reason_in, cap_why}
+use Rattle.parts.specs.Places.{side_of, any_shape, any_holds, asked_about, cap_place, place_answer, place_answer_by, error_number, error_offset}
+use Rattle.parts.specs.Reasons.{Reason, side_by, reason_of, reason_in, cap_why, why_answer, why_answer_by}
 use Rattle.parts.specs.Gathering.{kept, alert_span, part_span, noted, no_facts, reading_of, looked, seen, no_shapes, view_of}
 use Rattle.parts.proofs.AreaOrder.{between_areas, Placed, part_placed}
 use Rattle.parts.proofs.Keeping.{alert_kept, part_kept, seen_part}
@@ -163,6 +166,13 @@ module _ {A B : Type 0} (g : A → B) (p : Place) (n t : ℕ) (x : A) where
           → giving g (answer_and_then r (λ k. cond (in_range p) (gives x) (refuses 6 0))) ≡ answer_and_then r (λ k. cond (in_range p) (gives (g x)) (refuses 6 0))
       go (gives k) = by_test (in_range p) (λ e. rw e) (λ e. rw e)
       go (refuses k q) = refl
+
+-- what a reason says, where the refusals are those of a place
+pub side_said :
+    (w : Result Why PlaceError) (s : Result code.Side PlaceError)
+    → ((n q : PlaceError → ℕ) → place_answer_by n q s ≡ giving side_by (why_answer_by n q w))
+    → place_answer s ≡ giving side_by (why_answer w)
+side_said w s h = h error_number error_offset
 
 pub why_place : (n : ℕ) (p : Place) (l : List ℕ) → giving side_by (cap_why n p l) ≡ cap_place n p l
 unfolding cap_why cap_place

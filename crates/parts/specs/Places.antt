@@ -58,10 +58,22 @@ asked_about p n total x = answer_and_then (look_up n total) (λ k. cond (in_rang
 unfoldable pub cap_place : ℕ → Place → List ℕ → Answer Side
 cap_place n p l = answer_and_then (document_of l) (λ es. asked_about p n (total es) (side_of (any_holds p (part_of n es)) (any_shape (part_of n es))))
 
+-- what is said of a place, where the refusals are of any type, and each has a number and an offset
+abbrev pub place_answer_by : {E : Type 0} → (number offset : E → ℕ) → Result code.Side E → Answer Side
+place_answer_by n q (Ok side.Inside) = gives inside
+place_answer_by n q (Ok side.Outside) = gives outside
+place_answer_by n q (Ok side.NoShape) = gives no_shape
+place_answer_by n q (Err e) = refuses (n e) (q e)
+
+abbrev pub error_number : PlaceError → ℕ
+error_number error.NotThere = 21
+error_number error.OutOfRange = 6
+error_number (error.Document r) = fault_number r.fault
+
+abbrev pub error_offset : PlaceError → ℕ
+error_offset error.NotThere = 0
+error_offset error.OutOfRange = 0
+error_offset (error.Document r) = r.offset
+
 abbrev pub place_answer : Result code.Side PlaceError → Answer Side
-place_answer (Ok side.Inside) = gives inside
-place_answer (Ok side.Outside) = gives outside
-place_answer (Ok side.NoShape) = gives no_shape
-place_answer (Err error.NotThere) = refuses 21 0
-place_answer (Err error.OutOfRange) = refuses 6 0
-place_answer (Err (error.Document r)) = refuses (fault_number r.fault) r.offset
+place_answer r = place_answer_by error_number error_offset r

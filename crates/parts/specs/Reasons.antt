@@ -4,7 +4,6 @@ use Rattle.text.specs.Answers.{Answer, gives, refuses, answer_and_then}
 use Rattle.coordinates.specs.declared.Place.{Place}
 use Rattle.polygon.specs.Polygon.{polygon_holds}
 use Rattle.circle.specs.Circle.{circle_holds}
-use Rattle.rules.specs.Faults.{fault_number}
 use Rattle.document.specs.Elements.{total}
 use Rattle.document.specs.Documents.{document_of}
 use Rattle.parts.specs.declared.ShapeKind.{ShapeKind}
@@ -13,10 +12,9 @@ use Rattle.parts.specs.declared.ShapeAt.{ShapeAt}
 use Rattle.parts.specs.declared.Why.{Why}
 use Rattle.parts.specs.declared.Why.TheVariants as why
 use Rattle.parts.specs.declared.PlaceError.{PlaceError}
-use Rattle.parts.specs.declared.PlaceError.TheVariants as error
 use Rattle.parts.specs.Elements.{part_of}
 use Rattle.parts.specs.Areas.{Area, areas_of, shapes_of}
-use Rattle.parts.specs.Places.{is_inside, Side, inside, outside, no_shape, asked_about}
+use Rattle.parts.specs.Places.{is_inside, Side, inside, outside, no_shape, asked_about, error_number, error_offset}
 
 -- ---- the shape that is named
 
@@ -77,10 +75,12 @@ reason_in p xs = reason_of (first_shape p xs) (shapes_of xs)
 unfoldable pub cap_why : ℕ → Place → List ℕ → Answer Reason
 cap_why n p l = answer_and_then (document_of l) (λ es. asked_about p n (total es) (reason_in p (areas_of (part_of n es))))
 
+-- the reason, where the refusals are of any type, and each has a number and an offset
+abbrev pub why_answer_by : {E : Type 0} → (number offset : E → ℕ) → Result Why E → Answer Reason
+why_answer_by n q (Ok (why.Inside s)) = gives (held s)
+why_answer_by n q (Ok (why.Outside k)) = gives (tried k)
+why_answer_by n q (Ok why.NoShape) = gives shapeless
+why_answer_by n q (Err e) = refuses (n e) (q e)
+
 abbrev pub why_answer : Result Why PlaceError → Answer Reason
-why_answer (Ok (why.Inside s)) = gives (held s)
-why_answer (Ok (why.Outside n)) = gives (tried n)
-why_answer (Ok why.NoShape) = gives shapeless
-why_answer (Err error.NotThere) = refuses 21 0
-why_answer (Err error.OutOfRange) = refuses 6 0
-why_answer (Err (error.Document r)) = refuses (fault_number r.fault) r.offset
+why_answer r = why_answer_by error_number error_offset r

@@ -2,12 +2,12 @@
 
 #![tactic(auto)]
 
-ghost use Rattle.std.specs.Prelude.{◌≡◌};
+ghost use Rattle.std.specs.Prelude.{◌≡◌, ℕ};
 ghost use Rattle.text.specs.Answers.{giving};
 ghost use Rattle.parts.specs.Elements.{look_up, lookup_answer};
 ghost use Rattle.parts.specs.Sheets.{cap_sheet, sheet_answer};
-ghost use Rattle.parts.specs.Places.{cap_place, place_answer};
-ghost use Rattle.parts.specs.Reasons.{side_by, cap_why, why_answer};
+ghost use Rattle.parts.specs.Places.{cap_place, place_answer, place_answer_by};
+ghost use Rattle.parts.specs.Reasons.{side_by, cap_why, why_answer, why_answer_by};
 
 use coordinates::Place;
 use document::Refusal;
@@ -123,9 +123,9 @@ pub fn cap_why(s: &[u8], part: usize, place: Place) -> Result<Why, PlaceError>
     areas::why_in_part(part, total, &shapes, place)
 }
 
-// What a part says of a place, by the reason.
-pub fn side_of(why: Result<Why, PlaceError>) -> Result<Side, PlaceError>
-    ensures { place_answer result ≡ giving side_by (why_answer why) }
+// What a part says of a place, by the reason. An error of any type is handed on as it is.
+pub fn side_of<E>(why: Result<Why, E>) -> Result<Side, E>
+    ensures { (number offset : E → ℕ) → place_answer_by number offset result ≡ giving side_by (why_answer_by number offset why) }
 {
     match why? {
         Why::Inside(_) => Ok(Side::Inside),
@@ -135,7 +135,7 @@ pub fn side_of(why: Result<Why, PlaceError>) -> Result<Side, PlaceError>
 }
 
 // Whether a place is inside a part of a document: what the reason says.
-#[tactic(auto, using(crate::proofs::Meant::why_place))]
+#[tactic(auto, using(crate::proofs::Meant::side_said, crate::proofs::Meant::why_place))]
 pub fn cap_place(s: &[u8], part: usize, place: Place) -> Result<Side, PlaceError>
     ensures { place_answer result ≡ cap_place part place s.now }
 {

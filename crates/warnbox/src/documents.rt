@@ -32,7 +32,7 @@ fn sheet_of(document: &[u8], part: usize) -> Result<Found, Refused>
 }
 
 // What a part says of a place; the numbers of the reason go where C wants them.
-#[tactic(auto, using(parts::proofs::Meant::why_place))]
+#[tactic(auto, using(parts::proofs::Meant::side_said, parts::proofs::Meant::why_place))]
 fn why_of(
     document: &[u8],
     part: usize,
