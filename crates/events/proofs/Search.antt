@@ -2,19 +2,24 @@
 use mathlib.Core.Path.{◌≡◌, refl, sym, ◌∙◌, ap}
 use mathlib.Core.Bool.{Bool, true, false, cond, false≢true}
 use mathlib.Core.Logic.{◌⊎◌, inl, inr}
-use mathlib.Core.List.{List, [], ◌∷◌}
-use Prim.Native.Nat.{ℕ, zero, suc, ◌≤◌, ◌<◌, zero-le, suc-le-suc}
+use mathlib.Core.List.{List, [], ◌∷◌, ◌++◌}
+use Prim.Native.Nat.{ℕ, zero, suc, ◌+◌, ◌≤◌, ◌<◌, zero-le, suc-le-suc}
 use native.Mathlib.Nat.{le_of_suc-le-suc, not-suc-le-zero}
 use native.Mathlib.Omega.{arith}
-use borrow.Author.Tests.{ltb-true, ltb-false}
+use borrow.Author.Tests.{ltb-true, ltb-false, lt-ltb, le-ltb}
 use lib.Dec.{ltb, eqb}
-use lib.ListN.{length, get_or, set}
-use Rattle.std.specs.Prelude.{Some, None}
-use Rattle.std.specs.Option.{unwrap_or}
+use lib.ListN.{length, get_or, set, get_or-append, length-append}
+use lib.Seq.{get_or-append_seam}
+use Rattle.std.specs.Prelude.{Some, None, Ok, Err}
+use Rattle.std.specs.Bool.{then_some}
+use Rattle.std.specs.Option.{unwrap_or, option_or, option_map}
 use Rattle.std.specs.List.{position, position_or_len, list_any}
 use Rattle.text.specs.Logic.{by_test}
 use Rattle.events.specs.declared.Entry.{Entry}
-use Rattle.events.specs.Table.{blank, is_of, is_free, first_index, index_of, free_index, position_of, is_listed}
+use Rattle.events.specs.declared.New.{New}
+use Rattle.events.specs.declared.Refusal.TheVariants.{NotAbove, Full}
+use Rattle.events.specs.Table.{blank, is_of, is_free, first_index, index_of, free_index, position_of, is_listed, renewed, fresh}
+use Rattle.events.specs.Steps.{decided, decided_by, no_candidates, found_with, found_in}
 use Rattle.events.specs.Demand2.{FirstAt, NoneOf}
 
 -- ---- the first index
@@ -92,6 +97,17 @@ module _ (f : Entry → Bool) where
       (ltb-true (first_index f es) (length es))
       (λ t. absurd (false≢true (sym (none_of es (ltb-false (first_index f es) (length es) t) k h) ∙ e)))
 
+  -- the first index with one entry more
+  index_snoc : (es : List Entry) (e : Entry) → first_index f (es ++ (e ∷ [])) ≡ cond (ltb (first_index f es) (length es)) (first_index f es) (cond (f e) (length es) (length es + 1))
+  unfolding first_index
+  index_snoc [] e = refl
+  index_snoc (b ∷ es) e = by_test (f b) (λ t. rw (t, lt-ltb 0 (suc (length es)) (omega arith))) (λ t. rw (t, index_snoc es e) (cases (first_index f es) (length es) (ltb (first_index f es) (length es)) (f e) refl))
+    where
+      cases : (k n : ℕ) (y t : Bool) → ltb k n ≡ y → suc (cond y k (cond t n (n + 1))) ≡ cond (ltb (suc k) (suc n)) (suc k) (cond t (suc n) (suc n + 1))
+      cases k n true t p = rw (lt-ltb (suc k) (suc n) (omega (arith, ltb-true k n p)))
+      cases k n false true p = rw (le-ltb (suc k) (suc n) (omega (arith, ltb-false k n p)))
+      cases k n false false p = rw (le-ltb (suc k) (suc n) (omega (arith, ltb-false k n p))) (omega arith)
+
   -- the library's words for it
   first_or_len : (es : List Entry) → position_or_len f es ≡ first_index f es
   unfolding first_index
@@ -100,6 +116,17 @@ module _ (f : Entry → Bool) where
 
   pub first_position : (es : List Entry) → position f es ≡ cond (ltb (first_index f es) (length es)) (Some (first_index f es)) None
   first_position es = rw (first_or_len es)
+
+  -- with one entry more the first is where it was, or else that entry's
+  position_snoc : (es : List Entry) (e : Entry) → position f (es ++ (e ∷ [])) ≡ option_or (position f es) (then_some (f e) (length es))
+  position_snoc es e =
+      rw (first_position (es ++ (e ∷ [])), first_position es, index_snoc es e, length-append es (e ∷ [])) (cases (first_index f es) (length es) (ltb (first_index f es) (length es)) (f e) refl)
+    where
+      cases : (k n : ℕ) (y t : Bool) → ltb k n ≡ y
+          → cond (ltb (cond y k (cond t n (n + 1))) (n + 1)) (Some (cond y k (cond t n (n + 1)))) None ≡ option_or (cond y (Some k) None) (then_some t n)
+      cases k n true t p = rw (lt-ltb k (n + 1) (omega (arith, ltb-true k n p)))
+      cases k n false true p = rw (lt-ltb n (n + 1) (omega arith))
+      cases k n false false p = rw (le-ltb (n + 1) (n + 1) (omega arith))
 
 -- an event's entry that was found, or none
 pub found : (key event : ℕ) (es : List Entry)
@@ -135,3 +162,46 @@ pub listed_any : (keys : List ℕ) (key : ℕ) → list_any (λ k. eqb k key) ke
 unfolding is_listed
 listed_any [] key = refl
 listed_any (k ∷ keys) key = by_test (eqb k key) (λ t. rw t) (λ t. rw t (listed_any keys key))
+
+-- ---- a search among entries that are seen one after the other
+
+abbrev with_index : List Entry → ℕ → ℕ × Entry
+with_index es k = (k, get_or es k blank)
+
+module _ (key event : ℕ) where
+  pub found_none : found_in key event [] ≡ no_candidates
+  unfolding position_of first_index
+  found_none = refl
+
+  known_snoc :
+      (es : List Entry) (e : Entry)
+      → option_map (with_index (es ++ (e ∷ []))) (position_of key event (es ++ (e ∷ [])))
+      ≡ option_or (option_map (with_index es) (position_of key event es)) (then_some (is_of key event e) (length es, e))
+  unfolding position_of
+  known_snoc es e =
+      let f = is_of key event in
+      rw (← first_position f (es ++ (e ∷ [])), position_snoc f es e, first_position f es) (cases (first_index f es) (ltb (first_index f es) (length es)) (f e) refl)
+    where
+      cases : (k : ℕ) (y t : Bool) → ltb k (length es) ≡ y
+          → option_map (with_index (es ++ (e ∷ []))) (option_or (cond y (Some k) None) (then_some t (length es)))
+          ≡ option_or (option_map (with_index es) (cond y (Some k) None)) (then_some t (length es, e))
+      cases k true t p = rw (get_or-append es (e ∷ []) blank k (ltb-true k (length es) p))
+      cases k false true p = rw (get_or-append_seam es e [] blank)
+      cases k false false p = refl
+
+  -- a step from what is found among some entries is what is found among them and the next
+  pub found_next : (es : List Entry) (e : Entry) → found_with key event (found_in key event es) (length es) e ≡ found_in key event (es ++ (e ∷ []))
+  found_next es e = rw (known_snoc es e, position_snoc is_free es e)
+
+-- and what a packet comes to by all of them is what it comes to among them
+pub decided_found : (new : New) (es : List Entry) → decided_by (found_in new.key new.event es) new ≡ decided new es
+unfolding decided position_of
+decided_found new es =
+    rw (first_position is_free es) (cases (index_of new.key new.event es) (free_index es) (ltb (index_of new.key new.event es) (length es)) (ltb (free_index es) (length es)))
+  where
+    cases : (k j : ℕ) (y t : Bool)
+        → decided_by (record { known = option_map (with_index es) (cond y (Some k) None); free = cond t (Some j) None }) new
+        ≡ cond y (cond (ltb (get_or es k blank).sequence new.sequence) (Ok (k, renewed new (get_or es k blank))) (Err NotAbove)) (cond t (Ok (j, fresh new)) (Err Full))
+    cases k j true t = refl
+    cases k j false true = refl
+    cases k j false false = refl
