@@ -16,6 +16,7 @@ use Rattle.events.specs.declared.Refusal.{Refusal}
 use Rattle.events.specs.declared.Refusal.TheVariants.{NotAbove, Full}
 use Rattle.events.specs.Table.{Outcome, outcome, again, anew, table_outcome, checked, answered, received, refusal_number}
 use Rattle.events.specs.Steps.{checked_answer, decided}
+use Rattle.events.proofs.Search.{decided_is}
 
 -- an outcome as its answer and its entries
 pub answer_and_entries : {o q : Outcome} → o ≡ q → (o.answer ≡ q.answer) × (o.entries ≡ q.entries)
@@ -36,8 +37,8 @@ module _ (es : List Entry) (new : New) where
   carried_cases k j x y false u false = refl
 
   pub carried_is : carried_out (decided new es) es ≡ table_outcome new es
-  unfolding decided table_outcome again anew
-  carried_is = carried_cases _ _ _ _ _ _ _
+  unfolding table_outcome again anew
+  carried_is = rw (decided_is new es) (carried_cases _ _ _ _ _ _ _)
 
   pub stored_is : (i : ℕ) (x : Entry) → decided new es ≡ Ok (i, x) → outcome (gives tt) (set es i x) ≡ table_outcome new es
   stored_is i x e = sym (ap (λ (r : Result (ℕ × Entry) Refusal). carried_out r es) e) ∙ carried_is
@@ -52,8 +53,8 @@ module _ (es : List Entry) (new : New) where
 
   -- it is within the entries
   pub store_within : (i : ℕ) (x : Entry) → decided new es ≡ Ok (i, x) → i < length es
-  unfolding decided index_in_it
-  store_within i x = cases _ _ _ _ (ltb _ (length es)) _ (ltb _ (length es)) refl refl
+  unfolding index_in_it
+  store_within i x = rw (decided_is new es) (cases _ _ _ _ (ltb _ (length es)) _ (ltb _ (length es)) refl refl)
     where
       cases : (k j : ℕ) (y z : Entry) (t u w : Bool) → ltb k (length es) ≡ t → ltb j (length es) ≡ w
           → ◌≡◌ {A = Result (ℕ × Entry) Refusal} (cond t (cond u (Ok (k, y)) (Err NotAbove)) (cond w (Ok (j, z)) (Err Full))) (Ok (i, x)) → i < length es

@@ -19,7 +19,7 @@ use Rattle.events.specs.declared.Entry.{Entry}
 use Rattle.events.specs.declared.New.{New}
 use Rattle.events.specs.declared.Refusal.TheVariants.{NotAbove, Full}
 use Rattle.events.specs.Table.{blank, is_of, is_free, first_index, index_of, free_index, position_of, is_listed, renewed, fresh}
-use Rattle.events.specs.Steps.{decided, decided_by, no_candidates, found_with, found_in}
+use Rattle.events.specs.Steps.{with_index, found_in, decided_by, decided, no_candidates, found_with}
 use Rattle.events.specs.Demand2.{FirstAt, NoneOf}
 
 -- ---- the first index
@@ -165,9 +165,6 @@ listed_any (k ∷ keys) key = by_test (eqb k key) (λ t. rw t) (λ t. rw t (list
 
 -- ---- a search among entries that are seen one after the other
 
-abbrev with_index : List Entry → ℕ → ℕ × Entry
-with_index es k = (k, get_or es k blank)
-
 module _ (key event : ℕ) where
   pub found_none : found_in key event [] ≡ no_candidates
   unfolding position_of first_index
@@ -193,10 +190,17 @@ module _ (key event : ℕ) where
   pub found_next : (es : List Entry) (e : Entry) → found_with key event (found_in key event es) (length es) e ≡ found_in key event (es ++ (e ∷ []))
   found_next es e = rw (known_snoc es e, position_snoc is_free es e)
 
--- and what a packet comes to by all of them is what it comes to among them
-pub decided_found : (new : New) (es : List Entry) → decided_by (found_in new.key new.event es) new ≡ decided new es
+-- ---- what a packet comes to, by the first indices
+
+pub decided_is :
+    (new : New) (es : List Entry)
+    → decided new es
+    ≡ cond (ltb (index_of new.key new.event es) (length es))
+    (cond (ltb (get_or es (index_of new.key new.event es) blank).sequence new.sequence)
+    (Ok (index_of new.key new.event es, renewed new (get_or es (index_of new.key new.event es) blank))) (Err NotAbove))
+    (cond (ltb (free_index es) (length es)) (Ok (free_index es, fresh new)) (Err Full))
 unfolding decided position_of
-decided_found new es =
+decided_is new es =
     rw (first_position is_free es) (cases (index_of new.key new.event es) (free_index es) (ltb (index_of new.key new.event es) (length es)) (ltb (free_index es) (length es)))
   where
     cases : (k j : ℕ) (y t : Bool)

@@ -65,6 +65,7 @@ place_answer_by n q (Ok side.Outside) = gives outside
 place_answer_by n q (Ok side.NoShape) = gives no_shape
 place_answer_by n q (Err e) = refuses (n e) (q e)
 
+-- an error's number, "21, 6" or the document's own, and its offset
 abbrev pub error_number : PlaceError → ℕ
 error_number error.NotThere = 21
 error_number error.OutOfRange = 6
