@@ -4,7 +4,7 @@
 
 ghost use Rattle.std.specs.Prelude.{◌≡◌, ◌≤◌, length, IfOk, IfErr};
 
-use std::io::Read;
+use std::io::{self, Read};
 
 // What was read: as much of the input as the buffer has room for, and whether more of it came behind.
 #[derive(Clone, Copy)]
@@ -45,7 +45,7 @@ fn has_more<R: Read>(reader: &mut R, length: usize) -> Result<bool, ReadFailed>
 }
 
 // Reads the input into a buffer, and one byte more where that is full. Of the bytes that come no contract can say more than how many they are.
-pub fn read_input<'a, R: Read>(
+pub fn read_whole_input<'a, R: Read>(
     reader: &mut R,
     buffer: &'a mut [u8],
 ) -> Result<Input<'a>, ReadFailed>
@@ -58,3 +58,21 @@ pub fn read_input<'a, R: Read>(
         more,
     })
 }
+
+// Reads the input, or as much of it as the buffer has room for, and nothing behind that. A read that fails hands on the reader's own error.
+pub fn read_input<'a, R: Read>(reader: &mut R, buffer: &'a mut [u8]) -> io::Result<&'a [u8]>
+    ensures { IfOk result (λ input. length input.now ≤ length buffer.old) }
+{
+    let mut length = 0;
+    while length < buffer.len() {
+        let n = reader.read(&mut buffer[length..])?;
+        if n == 0 {
+            break;
+        }
+        length += n;
+    }
+    Ok(&buffer[..length])
+}
+
+#[cfg(test)]
+mod tests;

@@ -52,7 +52,7 @@ fn print_answers(rt: &impl Print, document: &[u8], place: Place) -> io::Result<(
 
 fn answer(rt: &HostRuntime, place: Place) -> io::Result<()> {
     let mut buffer = [0u8; document::MAX_LENGTH + 1]; // one byte more than a document may have: what follows can't change the answer
-    match input::read_input(&mut rt.reader(), &mut buffer) {
+    match input::read_whole_input(&mut rt.reader(), &mut buffer) {
         Ok(input) => print_answers(rt, input.bytes, place),
         Err(_) => println!(rt; "input can't be read"),
     }

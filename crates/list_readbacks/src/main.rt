@@ -44,7 +44,7 @@ fn print_text(rt: &impl Print, text: &[u8]) -> io::Result<()> {
 
 fn main(rt: HostRuntime) {
     let mut buffer = [0u8; MOST];
-    let _ = match input::read_input(&mut rt.reader(), &mut buffer) {
+    let _ = match input::read_whole_input(&mut rt.reader(), &mut buffer) {
         Ok(input) if input.more => println!(rt; "input over {MOST} bytes"),
         Ok(input) => print_text(&rt, input.bytes),
         Err(_) => println!(rt; "input can't be read"),

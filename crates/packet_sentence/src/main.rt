@@ -14,7 +14,7 @@ fn print_answer(rt: &impl Print, packet: &[u8]) -> io::Result<()> {
 
 fn main(rt: HostRuntime) {
     let mut buffer = [0u8; 1201]; // one byte more than a packet may have: what follows can't change the answer
-    let _ = match input::read_input(&mut rt.reader(), &mut buffer) {
+    let _ = match input::read_whole_input(&mut rt.reader(), &mut buffer) {
         Ok(input) => print_answer(&rt, input.bytes),
         Err(_) => println!(rt; "input can't be read"),
     };

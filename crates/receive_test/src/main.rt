@@ -171,7 +171,7 @@ fn run(rt: &impl Print, input: &[u8]) {
 
 fn main(rt: HostRuntime) {
     let mut buffer = [0u8; MOST];
-    let _ = match input::read_input(&mut rt.reader(), &mut buffer) {
+    let _ = match input::read_whole_input(&mut rt.reader(), &mut buffer) {
         Ok(input) if input.more => println!(rt; "input over {MOST} bytes"),
         Ok(input) => {
             run(&rt, input.bytes);

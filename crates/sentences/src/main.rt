@@ -17,7 +17,7 @@ fn print_report(rt: &impl Print, document: &[u8]) -> io::Result<()> {
 
 fn main(rt: HostRuntime) {
     let mut buffer = [0u8; document::MAX_LENGTH + 1]; // one byte more than a document may have: what follows can't change the answer
-    let _ = match input::read_input(&mut rt.reader(), &mut buffer) {
+    let _ = match input::read_whole_input(&mut rt.reader(), &mut buffer) {
         Ok(input) => print_report(&rt, input.bytes),
         Err(_) => println!(rt; "input can't be read"),
     };

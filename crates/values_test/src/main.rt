@@ -145,7 +145,7 @@ fn main(rt: HostRuntime) {
     print_cosines(&rt);
     print_longitudes(&rt);
     let mut buffer = [0u8; MOST];
-    let _ = match input::read_input(&mut rt.reader(), &mut buffer) {
+    let _ = match input::read_whole_input(&mut rt.reader(), &mut buffer) {
         Ok(input) if input.more => println!(rt; "input over {MOST} bytes"),
         Ok(input) => print_cases(&rt, input.bytes),
         Err(_) => println!(rt; "input can't be read"),
