@@ -44,7 +44,7 @@ fn has_more<R: Read>(reader: &mut R, length: usize) -> Result<bool, ReadFailed>
     }
 }
 
-// Reads the input into a buffer, and one byte more where that is full. Of the bytes that come no contract can say more than how many they are.
+// Reads the input into a buffer, and one byte more where that is full. The contract says how many bytes come, not which.
 pub fn read_whole_input<'a, R: Read>(
     reader: &mut R,
     buffer: &'a mut [u8],
@@ -59,7 +59,8 @@ pub fn read_whole_input<'a, R: Read>(
     })
 }
 
-// Reads the input, or as much of it as the buffer has room for, and nothing behind that. A read that fails hands on the reader's own error.
+// Reads the input, or as much of it as the buffer has room for, and nothing behind that. A read that fails hands on the reader's own error. The contract says
+// how many bytes come, not which.
 pub fn read_input<'a, R: Read>(reader: &mut R, buffer: &'a mut [u8]) -> io::Result<&'a [u8]>
     ensures { IfOk result (λ input. length input.now ≤ length buffer.old) }
 {

@@ -1,6 +1,7 @@
 // Which bytes come, what is left in the reader, and whose error it is: no clause says these.
 use super::*;
-use std::io::ErrorKind;
+
+const ERROR_CODE: i32 = 5;
 
 // Gives a byte a call, and then fails.
 #[derive(Drop)]
@@ -11,7 +12,7 @@ struct FailsAtEnd {
 impl Read for FailsAtEnd {
     fn read(&mut self, buf: &mut [u8]) -> io::Result<usize> {
         if self.bytes.is_empty() {
-            return Err(ErrorKind::TimedOut.into());
+            return Err(io::Error::from_raw_os_error(ERROR_CODE));
         }
         if buf.is_empty() {
             return Ok(0);
@@ -47,7 +48,7 @@ fn hands_on_the_readers_error(rt: HostRuntime) {
     let mut reader = FailsAtEnd { bytes: b"ab" };
     let input = read_input(&mut reader, &mut buffer);
     assert_eq!(rt;
-        input.err().map(|error| error.kind()),
-        Some(ErrorKind::TimedOut)
+        input.err().and_then(|error| error.raw_os_error()),
+        Some(ERROR_CODE)
     );
 }
